@@ -1,0 +1,18 @@
+-- Lists of bytes, and what is between them. Assumes nothing.
+use mathlib.Core.Path.{_≡_}
+use mathlib.Core.List.{List, [], _∷_}
+use Prim.Native.Nat.{ℕ, _<_}
+use lib.Bits.{bitXor}
+use lib.ListN.{length, getD}
+
+-- n bytes
+pub record Bytes (n : ℕ) (xs : List ℕ) : Type 0 where
+  pub long : length xs ≡ n
+  pub small : (i : ℕ) → getD xs i 0 < 256
+
+infixl 40 _⊕_
+-- exclusive or, place by place
+abbrev pub _⊕_ : List ℕ → List ℕ → List ℕ
+[] ⊕ ys = []
+(x ∷ xs) ⊕ [] = []
+(x ∷ xs) ⊕ (y ∷ ys) = bitXor x y ∷ (xs ⊕ ys)

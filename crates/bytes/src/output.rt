@@ -1,0 +1,29 @@
+// Writing a whole result into a lent output, or nothing of it.
+ghost use mathlib.Core.Path.{_≡_};
+ghost use lib.ListN.{length};
+ghost use Rattle.bytes.specs.Output.{Writes, fitted, shortNumber};
+use crate::refusal::Refusal;
+
+// The output has fewer places than the result has bytes.
+#[derive(Clone, Copy, Debug, PartialEq, Eq)]
+pub struct TooShort;
+
+pub impl Refusal for TooShort as TooShortRefusal {
+    ghost numbered = { shortNumber };
+
+    fn number(&self) -> u8 {
+        11
+    }
+}
+
+// Puts `bytes` at the front of `out`. What lies behind them keeps its content, and a refusal changes nothing.
+pub fn write(bytes: &[u8], out: &mut [u8]) -> Result<usize, TooShort>
+    ensures { λ r. ⌜ Writes (fitted (now (bytes .entry)) (length (now (out .entry)))) r (now (out .entry)) (now (out .exit)) ⌝ }
+{
+    let count = bytes.len();
+    if out.len() < count {
+        return Err(TooShort);
+    }
+    out[0..count].copy_from_slice(bytes);
+    Ok(count)
+}

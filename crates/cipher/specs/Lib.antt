@@ -1,0 +1,2 @@
+pub mod Demonstration
+pub mod Version
