@@ -5,10 +5,12 @@ use mathlib.Core.List.{List, [], _∷_, _++_, append-assoc}
 use Prim.Native.Nat.{ℕ, _+_, _*_, _/_, _%_, _<_, _≤_}
 use native.Mathlib.Omega.{arith}
 use lib.ListN.{length, take, drop, getD, set}
-use Rattle.std.proofs.shelf.Elements.{all-getD}
+use Rattle.std.proofs.shelf.Tests.{and-from}
 use Rattle.std.proofs.shelf.Lists.{take-more, take-more-set, drop-more, set-at, length-push, length-take-le}
 use Rattle.std.proofs.shelf.Ways.{tells}
 use Rattle.std.specs.shelf.Lists.{All}
+use Rattle.bytes.specs.Bytes.{every}
+use Rattle.bytes.proofs.Each.{every-at}
 use Rattle.bytes.specs.Hex.{digit, isDigit, Digits, hex, value, unhex}
 
 pub hex-append : (xs ys : List ℕ) → hex (xs ++ ys) ≡ hex xs ++ hex ys
@@ -30,9 +32,10 @@ module _ (n : ℕ) (h : n < 16) where
   value-digit = grind (arith, tells)
 
 pub digits-hex : (bs : List ℕ) → All (λ b. b < 256) bs → Digits (hex bs)
-unfolding hex
-digits-hex [] h = tt
-digits-hex (b ∷ bs) h = (is-digit (b / 16) (omega (arith, h .0)), (is-digit (b % 16) (omega arith), digits-hex bs (h .1)))
+unfolding hex every
+digits-hex [] h = refl
+digits-hex (b ∷ bs) h =
+    and-from _ _ (is-digit (b / 16) (omega (arith, h .0))) (and-from _ _ (is-digit (b % 16) (omega arith)) (digits-hex bs (h .1)))
 
 pub unhex-hex : (bs : List ℕ) → All (λ b. b < 256) bs → unhex (hex bs) ≡ bs
 unfolding hex unhex
@@ -56,7 +59,7 @@ take-two-more t i h =
 -- two characters of which one is outside the set
 pub no-digits : (t : List ℕ) (i : ℕ) → i + 1 < length t → (isDigit (getD t i 0) ≡ true → isDigit (getD t (i + 1) 0) ≡ true → ⊥) → Digits t → ⊥
 no-digits t i h outside all =
-    let at = λ (k : ℕ) (l : k < length t). all-getD (λ c. isDigit c ≡ true) t k 0 l all in
+    let at = λ (k : ℕ) (l : k < length t). every-at isDigit t k l all in
     outside (at i (omega arith)) (at (i + 1) h)
 
 -- a byte more, of a text's next two digits

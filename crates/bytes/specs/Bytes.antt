@@ -1,5 +1,6 @@
 -- Lists of bytes, and what is between them. Assumes nothing.
 use mathlib.Core.Path.{_≡_}
+use mathlib.Core.Bool.{Bool, true, _&&_}
 use mathlib.Core.List.{List, [], _∷_}
 use Prim.Native.Nat.{ℕ, _<_}
 use lib.Bits.{bitXor}
@@ -9,6 +10,11 @@ use lib.ListN.{length, getD}
 pub record Bytes (n : ℕ) (xs : List ℕ) : Type 0 where
   pub long : length xs ≡ n
   pub small : (i : ℕ) → getD xs i 0 < 256
+
+-- a test passes at each element
+unfoldable pub every : (ℕ → Bool) → List ℕ → Bool
+every test [] = true
+every test (x ∷ xs) = test x && every test xs
 
 infixl 40 _⊕_
 -- exclusive or, place by place

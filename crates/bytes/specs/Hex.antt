@@ -7,7 +7,7 @@ use lib.Dec.{leb, ltb}
 use lib.ListN.{length}
 use Rattle.std.specs.Options.{Cases}
 use Rattle.std.specs.declared.option.Option.{Option}
-use Rattle.std.specs.shelf.Lists.{All}
+use Rattle.bytes.specs.Bytes.{every}
 
 -- the digit of a number below 16
 abbrev pub digit : ℕ → ℕ
@@ -18,7 +18,7 @@ abbrev pub isDigit : ℕ → Bool
 isDigit c = (leb 48 c && leb c 57) || (leb 65 c && leb c 70)
 
 abbrev pub Digits : List ℕ → Type 0
-Digits t = All (λ c. isDigit c ≡ true) t
+Digits t = every isDigit t ≡ true
 
 -- two digits for each byte, the higher first
 unfoldable pub hex : List ℕ → List ℕ
