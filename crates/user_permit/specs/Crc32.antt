@@ -1,0 +1,36 @@
+-- CRC-32 of ISO/IEC 13239, a bit at a time: the register is reflected, so that its lowest bit leaves it first.
+-- Assumes nothing.
+use mathlib.Core.Path.{_≡_}
+use mathlib.Core.List.{List}
+use Prim.Native.Nat.{ℕ, zero, suc, _*_, _/_, _%_, _<_}
+use lib.Bits.{bitXor}
+use lib.Chars.{codes}
+use lib.ListN.{getD}
+use Rattle.std.specs.Iters.{folded}
+
+-- the register one bit on: where the bit that leaves it is 1, the polynomial goes in
+unfoldable pub shifted : ℕ → ℕ
+shifted r = bitXor (r / 2) (r % 2 * 0xEDB8_8320)
+
+-- the register n bits on
+unfoldable pub shifts : ℕ → ℕ → ℕ
+shifts zero r = r
+shifts (suc n) r = shifts n (shifted r)
+
+-- a byte goes in at the lowest eight bits
+unfoldable pub byte-in : ℕ → ℕ → ℕ
+byte-in r b = shifts 8 (bitXor r b)
+
+-- the register after each byte of a text
+unfoldable pub register : ℕ → List ℕ → ℕ
+register r bs = folded byte-in r bs
+
+unfoldable pub checksum : List ℕ → ℕ
+checksum bs = bitXor (register 0xFFFF_FFFF bs) 0xFFFF_FFFF
+
+-- every element is a byte; past the end the default is one too
+abbrev pub Bytes : List ℕ → Type 0
+Bytes bs = (i : ℕ) → getD bs i 0 < 256
+
+abbrev pub Examples : Type 0
+Examples = checksum (codes "123456789") ≡ 0xCBF4_3926
