@@ -12,10 +12,10 @@ use Rattle.std.proofs.shelf.Counted.{getD-map-counting}
 use Rattle.std.proofs.shelf.Lists.{ext-getD, getD-take, getD-drop, getD-past, drop-drop}
 use Rattle.std.proofs.shelf.Tests.{cases-lt}
 use Rattle.std.specs.Iters.{counting}
-use Rattle.user_permit.specs.Crc32.{shifted, shifts, byte-in, register, checksum, Bytes, Examples}
+use Rattle.user_permit.specs.Crc32.{polynomial, all-ones, shifted, shifts, byte-in, register, crc32, Bytes, Examples}
 
 pub examples : Examples
-unfolding shifted shifts byte-in register checksum
+unfolding shifted shifts byte-in register crc32
 examples = refl
 
 -- exclusive or
@@ -44,9 +44,9 @@ bit-times (suc (suc x)) y p hx hy = absurd (omega arith)
 pub shifted-xor : (x y : ℕ) → shifted (bitXor x y) ≡ bitXor (shifted x) (shifted y)
 unfolding shifted
 shifted-xor x y =
-    ap₂ (λ (a b : ℕ). bitXor a (b * 0xEDB8_8320)) (xor-shr x y 1) (xor-mod x y 1)
-    ∙ ap (bitXor (bitXor (x / 2) (y / 2))) (bit-times (x % 2) (y % 2) 0xEDB8_8320 (omega arith) (omega arith))
-    ∙ xor-pairs (x / 2) (y / 2) (x % 2 * 0xEDB8_8320) (y % 2 * 0xEDB8_8320)
+    ap₂ (λ (a b : ℕ). bitXor a (b * polynomial)) (xor-shr x y 1) (xor-mod x y 1)
+    ∙ ap (bitXor (bitXor (x / 2) (y / 2))) (bit-times (x % 2) (y % 2) polynomial (omega arith) (omega arith))
+    ∙ xor-pairs (x / 2) (y / 2) (x % 2 * polynomial) (y % 2 * polynomial)
 
 pub shifts-xor : (n x y : ℕ) → shifts n (bitXor x y) ≡ bitXor (shifts n x) (shifts n y)
 unfolding shifts
@@ -56,7 +56,7 @@ shifts-xor (suc n) x y = ap (shifts n) (shifted-xor x y) ∙ shifts-xor n (shift
 pub shifts-fit : (n x : ℕ) → x < 2 ^ 32 → shifts n x < 2 ^ 32
 unfolding shifts shifted
 shifts-fit zero x h = h
-shifts-fit (suc n) x h = shifts-fit n (shifted x) (xor-lt 32 (x / 2) (x % 2 * 0xEDB8_8320) (omega arith) (omega arith))
+shifts-fit (suc n) x h = shifts-fit n (shifted x) (xor-lt 32 (x / 2) (x % 2 * polynomial) (omega arith) (omega arith))
 
 -- a number with n bits of 0 below it comes down whole
 pub shifts-whole : (n x : ℕ) → shifts n (x * 2 ^ n) ≡ x
@@ -64,14 +64,14 @@ unfolding shifts shifted
 shifts-whole zero x = omega arith
 shifts-whole (suc n) x =
     ap (shifts n)
-    (ap₂ (λ (a b : ℕ). bitXor a (b * 0xEDB8_8320)) (shifted-half x n) (shifted-even x n) ∙ xor-zero-r (x * 2 ^ n))
+    (ap₂ (λ (a b : ℕ). bitXor a (b * polynomial)) (shifted-half x n) (shifted-even x n) ∙ xor-zero-r (x * 2 ^ n))
     ∙ shifts-whole n x
 
 shifted-zero : (x : ℕ) → x < 2 ^ 32 → shifted x ≡ 0 → x ≡ 0
 unfolding shifted
 shifted-zero x h e =
-    let p : ℕ = x % 2 * 0xEDB8_8320 in
-    let half : x / 2 ≡ x % 2 * 0xEDB8_8320 = xor-cancel (x / 2) p p (e ∙ sym (xor-self p)) in omega arith
+    let p : ℕ = x % 2 * polynomial in
+    let half : x / 2 ≡ x % 2 * polynomial = xor-cancel (x / 2) p p (e ∙ sym (xor-self p)) in omega arith
 
 shifts-zero : (n x : ℕ) → x < 2 ^ 32 → shifts n x ≡ 0 → x ≡ 0
 unfolding shifts
@@ -122,9 +122,9 @@ unfolding register
 register-fits r [] h bytes = h
 register-fits r (b ∷ bs) h bytes = register-fits (byte-in r b) bs (byte-in-fit r b h (bytes 0)) (λ i. bytes (suc i))
 
-pub checksum-fits : (bs : List ℕ) → Bytes bs → checksum bs < 2 ^ 32
-unfolding checksum
-checksum-fits bs bytes = xor-lt 32 (register 0xFFFF_FFFF bs) 0xFFFF_FFFF (register-fits 0xFFFF_FFFF bs (omega arith) bytes) (omega arith)
+pub crc32-fits : (bs : List ℕ) → Bytes bs → crc32 bs < 2 ^ 32
+unfolding crc32
+crc32-fits bs bytes = xor-lt 32 (register all-ones bs) all-ones (register-fits all-ones bs (omega arith) bytes) (omega arith)
 
 pub register-one-to-one : (r s : ℕ) (bs : List ℕ) → r < 2 ^ 32 → s < 2 ^ 32 → Bytes bs → register r bs ≡ register s bs → r ≡ s
 unfolding register byte-in
@@ -154,7 +154,7 @@ number-one-to-one (x ∷ xs) (y ∷ ys) l hx hy e =
     ap₂ _∷_ (omega (arith, hx 0, hy 0))
     (number-one-to-one xs ys (omega arith) (λ i. hx (suc i)) (λ i. hy (suc i)) (omega (arith, hx 0, hy 0)))
 
--- few bytes to one end differ as the registers that they began at
+-- where two short texts bring two registers to one end, the registers differ as the texts do
 ends-alike : (r s : ℕ) (xs ys : List ℕ) → r < 2 ^ 32 → s < 2 ^ 32 → length xs ≡ length ys → Bytes xs → Bytes ys
     → number xs < 2 ^ 32 → number ys < 2 ^ 32 → register r xs ≡ register s ys → bitXor r (number xs) ≡ bitXor s (number ys)
 unfolding register number
@@ -180,41 +180,51 @@ window r xs ys h lx ly hx hy e =
 bytes-take : (n : ℕ) (bs : List ℕ) → Bytes bs → Bytes (take n bs)
 bytes-take n bs h i =
     elim (cases-lt i n) [
-      | inl lt ↦ rw (getD-take n bs i 0 lt) (h i)
+      | inl lt ↦ rw getD-take (h i)
       | inr le ↦ rw (getD-past (take n bs) i 0 (simp length-take (omega arith))) (omega arith)
     ]
 
 bytes-drop : (n : ℕ) (bs : List ℕ) → Bytes bs → Bytes (drop n bs)
 bytes-drop n bs h i = rw getD-drop (h (n + i))
 
--- four bytes show in the checksum, whatever stands before and after them
+same-before : (k : ℕ) (t u : List ℕ) → length t ≡ length u → ((i : ℕ) → i < k → getD t i 0 ≡ getD u i 0) → take k t ≡ take k u
+same-before k t u l same =
+    ext-getD 0 (take k t) (take k u) (simp length-take (omega arith))
+    (λ i h. let lt : i < k = omega (arith, length-take k t) in simp getD-take (same i lt))
+
+same-from : (k : ℕ) (t u : List ℕ) → length t ≡ length u → ((i : ℕ) → k ≤ i → getD t i 0 ≡ getD u i 0) → drop k t ≡ drop k u
+same-from k t u l same =
+    ext-getD 0 (drop k t) (drop k u) (simp length-drop (omega arith)) (λ i h. simp getD-drop (same (k + i) (omega arith)))
+
+-- four bytes show in the sum, whatever stands before and after them
 four-between : (p xs ys s : List ℕ) → length xs ≡ 4 → length ys ≡ 4 → Bytes p → Bytes xs → Bytes ys → Bytes s
-    → checksum (p ++ (xs ++ s)) ≡ checksum (p ++ (ys ++ s)) → xs ≡ ys
-unfolding checksum
+    → crc32 (p ++ (xs ++ s)) ≡ crc32 (p ++ (ys ++ s)) → xs ≡ ys
+unfolding crc32
 four-between p xs ys s lx ly hp hx hy hs e =
-    let r = register 0xFFFF_FFFF p in
-    let hr = register-fits 0xFFFF_FFFF p (omega arith) hp in
-    let ends = simp register-append at (xor-cancel (register 0xFFFF_FFFF (p ++ (xs ++ s))) (register 0xFFFF_FFFF (p ++ (ys ++ s))) 0xFFFF_FFFF e) in
+    let r = register all-ones p in
+    let hr = register-fits all-ones p (omega arith) hp in
+    let ends = simp register-append at (xor-cancel (register all-ones (p ++ (xs ++ s))) (register all-ones (p ++ (ys ++ s))) all-ones e) in
     window r xs ys hr lx ly hx hy
     (register-one-to-one (register r xs) (register r ys) s (register-fits r xs hr hx) (register-fits r ys hr hy) hs ends)
 
-cut : (k : ℕ) (t : List ℕ) → take k t ++ (take 4 (drop k t) ++ drop (k + 4) t) ≡ t
+abbrev four : ℕ → List ℕ → List ℕ
+four k t = take 4 (drop k t)
+
+four-long : (k : ℕ) (t : List ℕ) → k + 4 ≤ length t → length (four k t) ≡ 4
+four-long k t h = simp (length-take, length-drop) (omega arith)
+
+cut : (k : ℕ) (t : List ℕ) → take k t ++ (four k t ++ drop (k + 4) t) ≡ t
 cut k t = rw (← drop-drop 4 k t, take-append-drop 4, take-append-drop)
 
--- two texts that differ at most in four bytes in a row, and have one checksum, are one text
+-- two texts that differ at most in four bytes in a row, and have one sum, are one text
 pub four-neighbours : (t u : List ℕ) (k : ℕ) → length t ≡ length u → k + 4 ≤ length t → Bytes t → Bytes u
-    → ((i : ℕ) → (i < k) ⊎ (k + 4 ≤ i) → getD t i 0 ≡ getD u i 0) → checksum t ≡ checksum u → t ≡ u
+    → ((i : ℕ) → (i < k) ⊎ (k + 4 ≤ i) → getD t i 0 ≡ getD u i 0) → crc32 t ≡ crc32 u → t ≡ u
 four-neighbours t u k l h ht hu same e =
-    let before : take k t ≡ take k u =
-    ext-getD 0 (take k t) (take k u) (simp length-take (omega arith))
-    (λ i lt. let lt : i < k = omega (arith, length-take k t) in simp getD-take (same i (inl lt))) in
-    let after : drop (k + 4) t ≡ drop (k + 4) u =
-    ext-getD 0 (drop (k + 4) t) (drop (k + 4) u) (simp length-drop (omega arith))
-    (λ i lt. simp getD-drop (same (k + 4 + i) (inr (omega arith)))) in
-    let other : take k t ++ (take 4 (drop k u) ++ drop (k + 4) t) ≡ u = rw (before, after) (cut k u) in
-    let four : take 4 (drop k t) ≡ take 4 (drop k u) =
-    four-between (take k t) (take 4 (drop k t)) (take 4 (drop k u)) (drop (k + 4) t)
-    (simp (length-take, length-drop) (omega arith)) (simp (length-take, length-drop) (omega arith))
+    let before = same-before k t u l (λ i lt. same i (inl lt)) in
+    let after = same-from (k + 4) t u l (λ i le. same i (inr le)) in
+    let other : take k t ++ (four k u ++ drop (k + 4) t) ≡ u = rw (before, after) (cut k u) in
+    let inside =
+    four-between (take k t) (four k t) (four k u) (drop (k + 4) t) (four-long k t h) (four-long k u (omega arith))
     (bytes-take k t ht) (bytes-take 4 (drop k t) (bytes-drop k t ht)) (bytes-take 4 (drop k u) (bytes-drop k u hu)) (bytes-drop (k + 4) t ht)
-    (ap checksum (cut k t) ∙ e ∙ ap checksum (sym other)) in
-    sym (cut k t) ∙ ap (λ w. take k t ++ (w ++ drop (k + 4) t)) four ∙ other
+    (ap crc32 (cut k t) ∙ e ∙ ap crc32 (sym other)) in
+    sym (cut k t) ∙ ap (λ w. take k t ++ (w ++ drop (k + 4) t)) inside ∙ other

@@ -8,9 +8,16 @@ use lib.Chars.{codes}
 use lib.ListN.{getD}
 use Rattle.std.specs.Iters.{folded}
 
+abbrev pub polynomial : ℕ
+polynomial = 0xEDB8_8320
+
+-- the register at the start, and what goes over it at the end
+abbrev pub all-ones : ℕ
+all-ones = 0xFFFF_FFFF
+
 -- the register one bit on: where the bit that leaves it is 1, the polynomial goes in
 unfoldable pub shifted : ℕ → ℕ
-shifted r = bitXor (r / 2) (r % 2 * 0xEDB8_8320)
+shifted r = bitXor (r / 2) (r % 2 * polynomial)
 
 -- the register n bits on
 unfoldable pub shifts : ℕ → ℕ → ℕ
@@ -25,12 +32,12 @@ byte-in r b = shifts 8 (bitXor r b)
 unfoldable pub register : ℕ → List ℕ → ℕ
 register r bs = folded byte-in r bs
 
-unfoldable pub checksum : List ℕ → ℕ
-checksum bs = bitXor (register 0xFFFF_FFFF bs) 0xFFFF_FFFF
+unfoldable pub crc32 : List ℕ → ℕ
+crc32 bs = bitXor (register all-ones bs) all-ones
 
 -- every element is a byte; past the end the default is one too
 abbrev pub Bytes : List ℕ → Type 0
 Bytes bs = (i : ℕ) → getD bs i 0 < 256
 
 abbrev pub Examples : Type 0
-Examples = checksum (codes "123456789") ≡ 0xCBF4_3926
+Examples = crc32 (codes "123456789") ≡ 0xCBF4_3926

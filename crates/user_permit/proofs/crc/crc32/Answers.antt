@@ -4,10 +4,11 @@ use Prim.Native.Nat.{_+_}
 use lib.Bits.{bitXor}
 use lib.ListN.{drop}
 use Rattle.std.proofs.shelf.Lists.{at-drop-more, at-drop-all}
-use Rattle.user_permit.specs.Crc32.{shifted, shifts, byte-in, register, checksum}
+use Rattle.user_permit.specs.Crc32.{all-ones, shifted, shifts, byte-in, register, crc32}
 use Rattle.user_permit.proofs.Checksum.{examples, by-table}
 use Rattle.user_permit.proofs.crc.crc32.Needs as need
 
+-- `shifted` and `shifts` unfold, so that antt computes all 256 entries and compares them with the code's table
 pub loop-byte-again : need.loop-byte-again
 unfolding shifted shifts register
 loop-byte-again c =
@@ -20,8 +21,8 @@ loop-byte-again c =
     ∙ c .loop-byte .inv
 
 pub returns : need.returns
-unfolding register checksum
+unfolding register crc32
 returns c =
     let text = c .args .text .now in
     let done = at-drop-all (register (c .loop-byte .crc)) text (c .loop-byte .byte-index) (c .loop-byte-test .left) in
-    record { value = ap (λ x. bitXor x 0xFFFF_FFFF) (sym done ∙ c .loop-byte .inv); examples = examples }
+    record { value = ap (λ x. bitXor x all-ones) (sym done ∙ c .loop-byte .inv); examples = examples }
