@@ -6,10 +6,14 @@ use Prim.Native.Nat.{ℕ, _<_}
 use lib.Bits.{bitXor}
 use lib.ListN.{length, getD}
 
+-- every element is a byte; what is read past the end is one too
+abbrev pub Small : List ℕ → Type 0
+Small xs = (i : ℕ) → getD xs i 0 < 256
+
 -- n bytes
 pub record Bytes (n : ℕ) (xs : List ℕ) : Type 0 where
   pub long : length xs ≡ n
-  pub small : (i : ℕ) → getD xs i 0 < 256
+  pub small : Small xs
 
 -- a test passes at each element
 unfoldable pub every : (ℕ → Bool) → List ℕ → Bool
