@@ -5,11 +5,12 @@ use mathlib.Core.List.{List, [], _∷_, _++_, append-assoc}
 use Prim.Native.Nat.{ℕ, _+_, _*_, _/_, _%_, _<_, _≤_}
 use native.Mathlib.Omega.{arith}
 use lib.ListN.{length, take, drop, getD, set}
+use Rattle.std.proofs.shelf.Elements.{all-from-getD}
 use Rattle.std.proofs.shelf.Tests.{and-from}
 use Rattle.std.proofs.shelf.Lists.{take-more, take-more-set, drop-more, set-at, length-push, length-take-le}
 use Rattle.std.proofs.shelf.Ways.{tells}
 use Rattle.std.specs.shelf.Lists.{All}
-use Rattle.bytes.specs.Bytes.{every}
+use Rattle.bytes.specs.Bytes.{every, Small}
 use Rattle.bytes.proofs.Each.{every-at}
 use Rattle.bytes.specs.Hex.{digit, isDigit, Digits, hex, value, unhex}
 
@@ -31,19 +32,33 @@ module _ (n : ℕ) (h : n < 16) where
   value-digit : value (digit n) ≡ n
   value-digit = grind (arith, tells)
 
-pub digits-hex : (bs : List ℕ) → All (λ b. b < 256) bs → Digits (hex bs)
+digits-hex : (bs : List ℕ) → All (λ b. b < 256) bs → Digits (hex bs)
 unfolding hex every
 digits-hex [] h = refl
 digits-hex (b ∷ bs) h =
     and-from _ _ (is-digit (b / 16) (omega (arith, h .0))) (and-from _ _ (is-digit (b % 16) (omega arith)) (digits-hex bs (h .1)))
 
-pub unhex-hex : (bs : List ℕ) → All (λ b. b < 256) bs → unhex (hex bs) ≡ bs
+unhex-hex : (bs : List ℕ) → All (λ b. b < 256) bs → unhex (hex bs) ≡ bs
 unfolding hex unhex
 unhex-hex [] h = refl
 unhex-hex (b ∷ bs) h =
     let high = value-digit (b / 16) (omega (arith, h .0)) in
     let low = value-digit (b % 16) (omega arith) in
     ap₂ (λ x xs. x ∷ xs) (omega (arith, high, low)) (unhex-hex bs (h .1))
+
+-- from here on bytes are told by their places
+module _ (bs : List ℕ) (small : Small bs) where
+  all-small : All (λ b. b < 256) bs
+  all-small = all-from-getD (λ b. b < 256) bs 0 (λ i h. small i)
+
+  pub hex-is-digits : Digits (hex bs)
+  hex-is-digits = digits-hex bs all-small
+
+  pub hex-undone : unhex (hex bs) ≡ bs
+  hex-undone = unhex-hex bs all-small
+
+pub hex-one-to-one : (xs ys : List ℕ) → Small xs → Small ys → hex xs ≡ hex ys → xs ≡ ys
+hex-one-to-one xs ys hx hy e = sym (hex-undone xs hx) ∙ ap unhex e ∙ hex-undone ys hy
 
 -- one byte more, at the end of a text
 pub hex-push : (xs : List ℕ) (b : ℕ) → hex (xs ++ b ∷ []) ≡ hex xs ++ digit (b / 16) ∷ digit (b % 16) ∷ []

@@ -1,11 +1,12 @@
 -- A test at each element of a list. Assumes nothing.
-use mathlib.Core.Path.{_≡_, refl}
-use mathlib.Core.Bool.{Bool, true, false}
+use mathlib.Core.Path.{_≡_, refl, sym, ap, _∙_}
+use mathlib.Core.Bool.{Bool, true, false, _&&_}
 use mathlib.Core.List.{List, [], _∷_, _++_}
-use Prim.Native.Nat.{ℕ, zero, suc, _<_}
+use Prim.Native.Nat.{ℕ, zero, suc, _+_, _<_, _≤_}
 use native.Mathlib.Nat.{le-of-suc-le-suc, not-suc-le-zero}
 use native.Mathlib.Omega.{arith}
-use lib.ListN.{length, getD}
+use lib.ListN.{length, drop, getD}
+use Rattle.std.proofs.shelf.Lists.{at-drop-more, at-drop-all}
 use Rattle.std.proofs.shelf.Tests.{and-parts, and-from, both-ways}
 use Rattle.bytes.specs.Bytes.{every}
 
@@ -26,6 +27,23 @@ module _ (test : ℕ → Bool) where
   every-append [] ys h k = k
   every-append (x ∷ xs) ys h k = let p = and-parts (test x) _ h in and-from _ _ (p .0) (every-append xs ys (p .1) k)
 
+  pub every-parts : (xs ys : List ℕ) → every test (xs ++ ys) ≡ true → (every test xs ≡ true) × (every test ys ≡ true)
+  unfolding every
+  every-parts [] ys h = (refl, h)
+  every-parts (x ∷ xs) ys h =
+      let p = and-parts (test x) _ h in
+      let q = every-parts xs ys (p .1) in
+      (and-from _ _ (p .0) (q .0), q .1)
+
   -- one that fails is enough
   pub every-fails : (xs : List ℕ) (i : ℕ) → i < length xs → test (getD xs i 0) ≡ false → every test xs ≡ true → ⊥
   every-fails xs i h fails all = both-ways _ fails (every-at xs i h all)
+
+  -- a loop over the elements: one step on, and at the end
+  pub every-more : (xs : List ℕ) (i : ℕ) (b : Bool) → i < length xs → b ≡ test (getD xs i 0) → (b && every test (drop (i + 1) xs)) ≡ every test (drop i xs)
+  unfolding every
+  every-more xs i b h told = ap (λ x. x && every test (drop (i + 1) xs)) told ∙ sym (at-drop-more (every test) xs i 0 h)
+
+  pub every-all : (xs : List ℕ) (i : ℕ) → length xs ≤ i → every test (drop i xs) ≡ true
+  unfolding every
+  every-all xs i h = at-drop-all (every test) xs i h

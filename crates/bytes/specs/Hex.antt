@@ -7,7 +7,7 @@ use lib.Dec.{leb, ltb}
 use lib.ListN.{length}
 use Rattle.std.specs.Options.{Cases}
 use Rattle.std.specs.declared.option.Option.{Option}
-use Rattle.bytes.specs.Bytes.{every}
+use Rattle.bytes.specs.Bytes.{Bytes, every}
 
 -- the digit of a number below 16
 abbrev pub digit : ℕ → ℕ
@@ -41,9 +41,9 @@ Valued c r = Cases r (isDigit c ≡ false) (λ v. (v < 16) × (digit v ≡ c))
 
 -- the byte of two digits, and none of other characters
 abbrev pub Paired : ℕ → ℕ → Option ℕ → Type 0
-Paired h l r = Cases r (isDigit h ≡ true → isDigit l ≡ true → ⊥) (λ b. (digit (b / 16) ≡ h) × (digit (b % 16) ≡ l))
+Paired h l r = Cases r (isDigit h ≡ true → isDigit l ≡ true → ⊥) (λ b. (b < 256) × (digit (b / 16) ≡ h) × (digit (b % 16) ≡ l))
 
 -- The bytes that a text of twice as many digits stands for; none only if the text has another length or another
 -- character.
 abbrev pub Decoded : ℕ → List ℕ → Option (List ℕ) → Type 0
-Decoded n t r = Cases r (length t ≡ 2 * n → Digits t → ⊥) (λ bs. (length bs ≡ n) × (hex bs ≡ t))
+Decoded n t r = Cases r (length t ≡ 2 * n → Digits t → ⊥) (λ bs. Bytes n bs × (hex bs ≡ t))

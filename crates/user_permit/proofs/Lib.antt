@@ -1,1 +1,4 @@
+pub mod Agreement
+pub mod Altering
 pub mod Checksum
+pub mod Sets

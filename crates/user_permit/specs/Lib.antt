@@ -1,1 +1,4 @@
+pub mod Alteration
+pub mod Check
 pub mod Crc32
+pub mod Lawful
