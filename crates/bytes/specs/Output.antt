@@ -19,6 +19,10 @@ Writes (Err e) r before after = (r ≡ Err e) × (after ≡ before)
 abbrev pub shortNumber : TooShort → ℕ
 shortNumber t = 11
 
+-- whether a result of this many bytes has room
+abbrev pub room : ℕ → ℕ → Result (Unit {0}) TooShort
+room count places = cond (leb count places) (Ok tt) (Err (record {}))
+
 -- bytes for an output with this many places
 abbrev pub fitted : List ℕ → ℕ → Result (List ℕ) TooShort
-fitted bytes room = cond (leb (length bytes) room) (Ok bytes) (Err (record {}))
+fitted bytes places = cond (leb (length bytes) places) (Ok bytes) (Err (record {}))

@@ -11,7 +11,7 @@ use Rattle.user_permit.specs.Crc32.{crc32}
 use Rattle.user_permit.specs.Lawful.{bigEndian, checksumOf}
 use Rattle.user_permit.proofs.Checksum.{crc32-fits}
 
-big-endian-small : (n : ℕ) → Small (bigEndian n)
+pub big-endian-small : (n : ℕ) → Small (bigEndian n)
 big-endian-small n zero = omega arith
 big-endian-small n (suc zero) = omega arith
 big-endian-small n (suc (suc zero)) = omega arith

@@ -1,0 +1,1 @@
+// The hardware ID of a checked user permit.
