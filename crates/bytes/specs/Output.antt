@@ -3,6 +3,7 @@ use mathlib.Core.Path.{_≡_}
 use mathlib.Core.Bool.{cond}
 use mathlib.Core.List.{List, _++_}
 use Prim.Native.Nat.{ℕ}
+use lib.Chars.{codes}
 use lib.Dec.{leb}
 use lib.ListN.{length, drop}
 use Rattle.std.specs.declared.result.Result.{Result}
@@ -15,9 +16,12 @@ abbrev pub Writes : {E : Type 0} → Result (List ℕ) E → Result ℕ E → Li
 Writes (Ok bytes) r before after = (r ≡ Ok (length bytes)) × (after ≡ bytes ++ drop (length bytes) before)
 Writes (Err e) r before after = (r ≡ Err e) × (after ≡ before)
 
--- the number of an output that is too short
+-- the number of an output that is too short, and its words
 abbrev pub shortNumber : TooShort → ℕ
 shortNumber t = 11
+
+abbrev pub shortWords : TooShort → List ℕ
+shortWords t = codes "the output is too short for the whole result"
 
 -- whether a result of this many bytes has room
 abbrev pub room : ℕ → ℕ → Result (Unit {0}) TooShort

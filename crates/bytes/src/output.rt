@@ -1,8 +1,10 @@
 // Writing a whole result into a lent output, or nothing of it.
 ghost use mathlib.Core.Path.{_≡_};
 ghost use lib.ListN.{length};
-ghost use Rattle.bytes.specs.Output.{Writes, room, fitted, shortNumber};
+ghost use Rattle.std.specs.declared.option.Option.the-variants.{Some};
+ghost use Rattle.bytes.specs.Output.{Writes, room, fitted, shortNumber, shortWords};
 use crate::refusal::Refusal;
+use std::fmt;
 
 // The output has fewer places than the result has bytes.
 #[derive(Clone, Copy, Debug, PartialEq, Eq)]
@@ -13,6 +15,14 @@ pub impl Refusal for TooShort as TooShortRefusal {
 
     fn number(&self) -> u8 {
         11
+    }
+}
+
+pub impl fmt::Display for TooShort as TooShortDisplay {
+    ghost shown = { λ t. Some (shortWords t) };
+
+    fn fmt<W: fmt::Write>(&self, f: &mut fmt::Formatter<W>) -> fmt::Result {
+        f.pad("the output is too short for the whole result")
     }
 }
 

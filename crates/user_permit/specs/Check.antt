@@ -3,6 +3,7 @@ use mathlib.Core.Path.{_≡_}
 use mathlib.Core.Bool.{true, false}
 use mathlib.Core.List.{List}
 use Prim.Native.Nat.{ℕ}
+use lib.Chars.{codes}
 use lib.ListN.{length, take, drop}
 use Rattle.std.specs.Options.{Cases}
 use Rattle.std.specs.declared.option.Option.{Option}
@@ -20,6 +21,11 @@ abbrev pub checkNumber : CheckRefusal → ℕ
 checkNumber Length = 1
 checkNumber Character = 2
 checkNumber Checksum = 3
+
+abbrev pub checkWords : CheckRefusal → List ℕ
+checkWords Length = codes "a user permit has 46 characters"
+checkWords Character = codes "a character of the user permit is outside its set"
+checkWords Checksum = codes "the checksum of the user permit disagrees"
 
 -- the parts of a text of 46 characters, and none only if a character is outside its set
 pub record PartsOf (t : List ℕ) (p : Parts) : Type 0 where

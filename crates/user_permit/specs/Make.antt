@@ -2,6 +2,7 @@
 use mathlib.Core.Bool.{cond}
 use mathlib.Core.List.{List}
 use Prim.Native.Nat.{ℕ}
+use lib.Chars.{codes}
 use lib.Dec.{leb}
 use Rattle.std.specs.declared.result.Result.{Result}
 use Rattle.std.specs.declared.result.Result.the-variants.{Ok, Err}
@@ -15,6 +16,10 @@ use Rattle.user_permit.specs.declared.make.MakeRefusal.the-variants.{Field, Ou
 abbrev pub makeNumber : MakeRefusal → ℕ
 makeNumber (Field fault) = faultNumber fault
 makeNumber (Output short) = shortNumber short
+
+abbrev pub makeWords : MakeRefusal → List ℕ
+makeWords (Field fault) = codes "a manufacturer ID has six characters of 0 to 9 and A to Z"
+makeWords (Output short) = codes "the output has no room for 46 characters"
 
 -- E under the manufacturer key makes the text; the ID's rule is tried before the output's room
 abbrev pub making : (List ℕ → List ℕ → List ℕ) → List ℕ → List ℕ → List ℕ → ℕ → Result (List ℕ) MakeRefusal

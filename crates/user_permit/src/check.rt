@@ -4,15 +4,17 @@ ghost use mathlib.Core.List.{List};
 ghost use mathlib.Core.Path.{_≡_};
 ghost use Prim.Native.Nat.{ℕ};
 ghost use Rattle.std.specs.Results.{isErr};
+ghost use Rattle.std.specs.declared.option.Option.the-variants.{Some};
 ghost use Rattle.user_permit.specs.Alteration.{Altered};
 ghost use Rattle.user_permit.specs.Lawful.{Lawful};
-ghost use Rattle.user_permit.specs.Check.{checkNumber, Parted, Checked};
+ghost use Rattle.user_permit.specs.Check.{checkNumber, checkWords, Parted, Checked};
 use crate::crc::crc32;
 use crate::permit::UserPermit;
 use bytes::block::Block;
 use bytes::hex;
 use bytes::refusal::Refusal;
 use fields::manufacturer_id::ManufacturerId;
+use std::fmt;
 
 #[derive(Clone, Copy, Debug, PartialEq, Eq)]
 pub enum CheckRefusal {
@@ -24,6 +26,18 @@ pub enum CheckRefusal {
     Checksum,
 }
 
+impl CheckRefusal {
+    fn words(&self) -> &'static str
+        ensures { λ r. ⌜ now r ≡ checkWords (now (self .entry)) ⌝ }
+    {
+        match self {
+            CheckRefusal::Length => "a user permit has 46 characters",
+            CheckRefusal::Character => "a character of the user permit is outside its set",
+            CheckRefusal::Checksum => "the checksum of the user permit disagrees",
+        }
+    }
+}
+
 pub impl Refusal for CheckRefusal as CheckRefusalNumber {
     ghost numbered = { checkNumber };
 
@@ -33,6 +47,14 @@ pub impl Refusal for CheckRefusal as CheckRefusalNumber {
             CheckRefusal::Character => 2,
             CheckRefusal::Checksum => 3,
         }
+    }
+}
+
+pub impl fmt::Display for CheckRefusal as CheckRefusalDisplay {
+    ghost shown = { λ e. Some (checkWords e) };
+
+    fn fmt<W: fmt::Write>(&self, f: &mut fmt::Formatter<W>) -> fmt::Result {
+        f.pad(self.words())
     }
 }
 

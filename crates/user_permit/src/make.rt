@@ -5,10 +5,11 @@ ghost use mathlib.Core.List.{_++_};
 ghost use mathlib.Core.Path.{_≡_};
 ghost use Prim.Native.Nat.{_≤_};
 ghost use Rattle.std.specs.Results.{isOk};
+ghost use Rattle.std.specs.declared.option.Option.the-variants.{Some};
 ghost use Rattle.bytes.specs.Output.{Writes};
 ghost use Rattle.user_permit.specs.Hardware.{hardwareId};
 ghost use Rattle.user_permit.specs.Lawful.{Lawful, checksumOf, permitText};
-ghost use Rattle.user_permit.specs.Make.{makeNumber, making};
+ghost use Rattle.user_permit.specs.Make.{makeNumber, makeWords, making};
 ghost use Rattle.user_permit.specs.declared.make.MakeRefusal.the-variants.{Field, Output};
 use crate::crc::crc32;
 use crate::secrets::HardwareId;
@@ -28,6 +29,7 @@ use fields::fault::FieldFaultDebug;
 use fields::fault::FieldFaultPartialEq;
 use fields::fault::FieldFaultRefusal;
 use fields::manufacturer_id::ManufacturerId;
+use std::fmt;
 
 #[derive(Clone, Copy, Debug, PartialEq, Eq)]
 pub enum MakeRefusal {
@@ -44,6 +46,19 @@ pub impl Refusal for MakeRefusal as MakeRefusalNumber {
         match self {
             MakeRefusal::Field(fault) => fault.number(),
             MakeRefusal::Output(short) => short.number(),
+        }
+    }
+}
+
+pub impl fmt::Display for MakeRefusal as MakeRefusalDisplay {
+    ghost shown = { λ e. Some (makeWords e) };
+
+    fn fmt<W: fmt::Write>(&self, f: &mut fmt::Formatter<W>) -> fmt::Result {
+        match self {
+            MakeRefusal::Field(_) => f.pad(
+                "a manufacturer ID has six characters of 0 to 9 and A to Z",
+            ),
+            MakeRefusal::Output(_) => f.pad("the output has no room for 46 characters"),
         }
     }
 }
