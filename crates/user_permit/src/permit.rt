@@ -1,10 +1,13 @@
 // A checked user permit. Its parts were read when it was checked, so nothing done with one tests them again.
 ghost use lib.ListN.{take, drop};
 ghost use mathlib.Core.Path.{_≡_};
+ghost use Rattle.std.specs.declared.option.Option.the-variants.{Some};
 ghost use Rattle.bytes.specs.Hex.{unhex};
 ghost use Rattle.user_permit.specs.Lawful.{Lawful};
 use bytes::block::Block;
 use fields::manufacturer_id::ManufacturerId;
+use std::fmt;
+use std::str::from_utf8_unchecked;
 
 #[derive(Clone, Copy)]
 pub struct UserPermit {
@@ -23,9 +26,24 @@ impl UserPermit {
         &self.text
     }
 
+    pub fn as_str(&self) -> &str
+        ensures { λ r. ⌜ now r ≡ now (self .entry) .text ⌝ }
+    {
+        // each character is a digit or a capital letter
+        unsafe { from_utf8_unchecked(&self.text) }
+    }
+
     pub fn manufacturer(&self) -> ManufacturerId
         ensures { λ r. ⌜ r .text ≡ drop 40 (now (self .entry) .text) ⌝ }
     {
         self.manufacturer
+    }
+}
+
+pub impl fmt::Display for UserPermit as UserPermitDisplay {
+    ghost shown = { λ p. Some (p .text) };
+
+    fn fmt<W: fmt::Write>(&self, f: &mut fmt::Formatter<W>) -> fmt::Result {
+        f.pad(self.as_str())
     }
 }
