@@ -1,0 +1,5 @@
+use mathlib.Core.Bool.{false≢true}
+use Rattle.permits.proofs.mistyped.refusal.Needs as need
+
+pub unreachable-requires : need.unreachable-requires
+unreachable-requires c κs = false≢true (c .in-Ok .ensures tt .altered _ (c .args .permit .now .lawful) (c .mistype .ensures))

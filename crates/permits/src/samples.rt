@@ -1,0 +1,65 @@
+// The samples of the story: a manufacturer with its key, and two chart systems of that manufacturer.
+use user_permit::secrets::HardwareId;
+use user_permit::secrets::ManufacturerKey;
+
+pub const MANUFACTURER: &str = "859868";
+
+// a small letter is in no manufacturer ID
+pub const UNLAWFUL: &str = "85986a";
+
+pub const KEY: ManufacturerKey = ManufacturerKey([
+    0x4D,
+    0x5A,
+    0x79,
+    0x67,
+    0x70,
+    0x65,
+    0x77,
+    0x4A,
+    0x73,
+    0x43,
+    0x70,
+    0x52,
+    0x72,
+    0x66,
+    0x4F,
+    0x72,
+]);
+
+pub const SHIP: HardwareId = HardwareId([
+    0x40,
+    0x38,
+    0x4B,
+    0x45,
+    0xB5,
+    0x45,
+    0x96,
+    0x20,
+    0x11,
+    0x14,
+    0xFE,
+    0x99,
+    0x04,
+    0x22,
+    0x01,
+    0x01,
+]);
+
+pub const OTHER_SHIP: HardwareId = HardwareId([
+    0x40,
+    0x38,
+    0x4B,
+    0x45,
+    0xB5,
+    0x45,
+    0x96,
+    0x20,
+    0x11,
+    0x14,
+    0xFE,
+    0x99,
+    0x04,
+    0x22,
+    0x01,
+    0x42,
+]);
