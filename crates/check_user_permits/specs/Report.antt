@@ -9,7 +9,7 @@ use Rattle.std.specs.shelf.Text.{sameBytes}
 use Rattle.user_permit.specs.Lawful.{inSets, checksumOf}
 use Rattle.check_user_permits.specs.Lines.{lines}
 
--- 1 if a line has not 46 characters, 2 if one is outside its set, 3 if the checksum disagrees, and 0 of a user permit
+-- 1: not 46 characters; 2: a character outside its set; 3: the checksum disagrees; 0: a user permit
 unfoldable pub verdict : List ℕ → ℕ
 verdict t =
     cond (not (eqb (length t) 46)) 1
@@ -20,7 +20,7 @@ verdict t =
 abbrev pub row : ℕ → List ℕ → List ℕ
 row number line = decimal number ++ (9 ∷ (decimal (verdict line) ++ (10 ∷ [])))
 
--- lines in order, the first with this number
+-- a row for each line, numbered from here on
 abbrev pub rows : ℕ → List (List ℕ) → List ℕ
 rows number [] = []
 rows number (line ∷ more) = row number line ++ rows (number + 1) more

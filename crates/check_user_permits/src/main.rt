@@ -1,4 +1,4 @@
-// Checks user permits: a line of standard input for each, and for each line its number and the number of its refusal.
+// Checks each line of standard input as a user permit, and prints its number and the number of its refusal.
 mod lines;
 mod report;
 

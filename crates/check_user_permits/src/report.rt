@@ -1,4 +1,4 @@
-// What is printed.
+// What is printed: a row for each line of the input.
 ghost use mathlib.Core.Path.{_≡_};
 ghost use Rattle.std.specs.Of.String.{string-bytes};
 ghost use Rattle.std.specs.Vec.{made};
@@ -10,7 +10,7 @@ use std::alloc::Global;
 use user_permit::check::CheckRefusalNumber;
 use user_permit::check::check;
 
-// The number of the refusal of a line, and 0 of a user permit.
+// The number of a line's refusal, and 0 where the line is a user permit.
 pub fn verdict(line: &[u8]) -> u8
     ensures { λ r. ⌜ r ≡ verdict (now (line .entry)) ⌝ }
 {
@@ -20,6 +20,7 @@ pub fn verdict(line: &[u8]) -> u8
     }
 }
 
+// A line's number, a tab and its verdict.
 fn row(heap: Global, number: u64, line: &[u8]) -> Result<String, AllocError>
     ensures { λ r. ⌜ made r (λ s. string-bytes s ≡ row number (now (line .entry))) ⌝ }
 {
