@@ -1,0 +1,29 @@
+-- What is printed for a text. Assumes nothing.
+use mathlib.Core.Bool.{cond, not}
+use mathlib.Core.List.{List, [], _∷_, _++_}
+use Prim.Native.Nat.{ℕ, _+_}
+use lib.Dec.{eqb}
+use lib.ListN.{length, take, drop}
+use Rattle.std.specs.Written.{decimal}
+use Rattle.std.specs.shelf.Text.{sameBytes}
+use Rattle.user_permit.specs.Lawful.{inSets, checksumOf}
+use Rattle.check_user_permits.specs.Lines.{lines}
+
+-- 1: not 46 characters; 2: a character outside its set; 3: the checksum disagrees; 0: a user permit
+unfoldable pub verdict : List ℕ → ℕ
+verdict t =
+    cond (not (eqb (length t) 46)) 1
+    (cond (not (inSets t)) 2
+    (cond (not (sameBytes (take 8 (drop 32 t)) (checksumOf (take 32 t)))) 3 0))
+
+-- a line's number, a tab, its verdict and LF
+abbrev pub row : ℕ → List ℕ → List ℕ
+row number line = decimal number ++ (9 ∷ (decimal (verdict line) ++ (10 ∷ [])))
+
+-- a row for each line, numbered from here on
+abbrev pub rows : ℕ → List (List ℕ) → List ℕ
+rows number [] = []
+rows number (line ∷ more) = row number line ++ rows (number + 1) more
+
+abbrev pub reportOf : List ℕ → List ℕ
+reportOf input = rows 1 (lines input)
