@@ -5,7 +5,7 @@ use mathlib.Core.List.{List, [], _∷_, _++_}
 use Prim.Native.Nat.{ℕ, zero, suc, _+_, _<_, _≤_}
 use native.Mathlib.Nat.{le-of-suc-le-suc, not-suc-le-zero}
 use native.Mathlib.Omega.{arith}
-use lib.ListN.{length, drop, getD}
+use lib.ListN.{length, drop, getD, set}
 use Rattle.std.proofs.shelf.Lists.{at-drop-more, at-drop-all}
 use Rattle.std.proofs.shelf.Tests.{and-parts, and-from, both-ways}
 use Rattle.bytes.specs.Bytes.{every}
@@ -34,6 +34,14 @@ module _ (test : ℕ → Bool) where
       let p = and-parts (test x) _ h in
       let q = every-parts xs ys (p .1) in
       (and-from _ _ (p .0) (q .0), q .1)
+
+  pub every-set : (xs : List ℕ) (i x : ℕ) → test x ≡ true → every test xs ≡ true → every test (set xs i x) ≡ true
+  unfolding every
+  every-set [] i x h all = all
+  every-set (y ∷ ys) zero x h all = and-from _ _ h (and-parts (test y) _ all .1)
+  every-set (y ∷ ys) (suc i) x h all =
+      let p = and-parts (test y) _ all in
+      and-from _ _ (p .0) (every-set ys i x h (p .1))
 
   -- one that fails is enough
   pub every-fails : (xs : List ℕ) (i : ℕ) → i < length xs → test (getD xs i 0) ≡ false → every test xs ≡ true → ⊥

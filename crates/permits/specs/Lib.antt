@@ -1,1 +1,2 @@
 pub mod KeyFile
+pub mod Mistyped
