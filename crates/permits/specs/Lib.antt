@@ -1,2 +1,3 @@
+pub mod Command
 pub mod KeyFile
 pub mod Mistyped

@@ -1,4 +1,8 @@
 // What the program was called to do.
+ghost use mathlib.Core.List.{map};
+ghost use mathlib.Core.Path.{_≡_};
+ghost use Rattle.std.specs.Of.String.{string-bytes};
+ghost use Rattle.permits.specs.Command.{Parses, word as wordAt};
 
 pub const USAGE: &str = "usage: permits
            tell the story of a user permit on built-in samples
@@ -20,16 +24,33 @@ pub enum Command<'a> {
     },
 }
 
+// A word of the call, and no text where there are not so many.
+fn word(words: &[String], i: usize) -> &str
+    ensures { λ r. ⌜ now r ≡ wordAt (map string-bytes (now (words .entry))) i ⌝ }
+{
+    if i < words.len() {
+        words[i].as_str()
+    } else {
+        ""
+    }
+}
+
 // The words are those of the call, the program's own name first.
-pub fn parse(words: &[String]) -> Option<Command<'_>> {
-    match words {
-        [_] => Some(Command::Story),
-        [_, word] if word.as_str() == "help" => Some(Command::Help),
-        [_, word, id, key_file, hardware_file] if word.as_str() == "make" => Some(Command::Make {
-            id: id.as_str(),
-            key_file: key_file.as_str(),
-            hardware_file: hardware_file.as_str(),
-        }),
-        _ => None,
+pub fn parse(words: &[String]) -> Option<Command<'_>>
+    ensures { λ r. ⌜ Parses (map string-bytes (now (words .entry))) r ⌝ }
+{
+    let name = word(words, 1);
+    if words.len() == 1 {
+        Some(Command::Story)
+    } else if words.len() == 2 && name == "help" {
+        Some(Command::Help)
+    } else if words.len() == 5 && name == "make" {
+        Some(Command::Make {
+            id: word(words, 2),
+            key_file: word(words, 3),
+            hardware_file: word(words, 4),
+        })
+    } else {
+        None
     }
 }

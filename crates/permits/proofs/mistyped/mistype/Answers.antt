@@ -14,12 +14,12 @@ returns c =
     let text = c .args .permit .now .text in
     let same = c .text .ensures in
     let chosen : c .if-text-eq48 .text ≡ otherDigit (getD (c .text .result .now) 5 0) =
-          elim (c .if-text-eq48 .came) [
-            then-text-eq48 w ↦ w .text-is ∙ sym (cond-true _ _ _ (eq-eqb _ _ (w .if-text-eq48 .taken)))
-          | else-text-eq48 w ↦ w .text-is ∙ sym (cond-false _ _ _ (ne-eqb _ _ (w .if-text-eq48 .left)))
-          ] in
+    elim (c .if-text-eq48 .came) [
+      | then-text-eq48 w ↦ w .text-is ∙ sym (cond-true _ _ _ (eq-eqb _ _ (w .if-text-eq48 .taken)))
+      | else-text-eq48 w ↦ w .text-is ∙ sym (cond-false _ _ _ (ne-eqb _ _ (w .if-text-eq48 .left)))
+    ] in
     let is : set (c .text .result .now) 5 (c .if-text-eq48 .text) ≡ set text 5 (otherDigit (getD text 5 0)) =
-          ap (λ d. set (c .text .result .now) 5 d) chosen ∙ ap (λ t. set t 5 (otherDigit (getD t 5 0))) same in
+    ap (λ d. set (c .text .result .now) 5 d) chosen ∙ ap (λ t. set t 5 (otherDigit (getD t 5 0))) same in
     let long = c .args .permit .now .lawful .0 in
     record {
       value = is;
