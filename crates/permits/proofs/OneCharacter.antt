@@ -47,7 +47,9 @@ pub other-differs : (c : ℕ) → otherDigit c ≡ c → ⊥
 other-differs c e = grind (arith, tells)
 
 -- so it is the checksum that gives a mistyped digit away
-pub given-away : (t : List ℕ) (e : CheckRefusal) → Lawful t → Checked (set t 5 (otherDigit (getD t 5 0))) (Err e) → e ≡ Checksum
-given-away t Length h not-long = absurd (not-long (length-set t 5 _ ∙ h .0))
-given-away t Character h outside = absurd (both-ways _ (outside .1) (still-in-sets t 5 _ (omega arith) (other-is-digit (getD t 5 0)) (h .1)))
-given-away t Checksum h told = refl
+module _ (t u : List ℕ) (h : Lawful t) (is : u ≡ set t 5 (otherDigit (getD t 5 0))) where
+  pub given-away : (e : CheckRefusal) → Checked u (Err e) → e ≡ Checksum
+  given-away Length not-long = absurd (not-long (ap length is ∙ length-set t 5 _ ∙ h .0))
+  given-away Character outside =
+      absurd (both-ways _ (outside .1) (ap inSets is ∙ still-in-sets t 5 _ (omega arith) (other-is-digit (getD t 5 0)) (h .1)))
+  given-away Checksum told = refl

@@ -37,3 +37,6 @@ fn main(rt: LibcRuntime) -> Result<(), Failure> {
     }
     outcome
 }
+
+#[cfg(test)]
+mod tests;

@@ -5,3 +5,5 @@ pub mod make;
 pub mod permit;
 pub mod recover;
 pub mod secrets;
+#[cfg(test)]
+mod tests;
