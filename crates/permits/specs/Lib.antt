@@ -1,3 +1,1 @@
-pub mod Command
-pub mod KeyFile
 pub mod Mistyped

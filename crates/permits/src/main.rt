@@ -1,14 +1,13 @@
 // The product. With no argument it tells one whole story on built-in samples and prints an account of it.
-mod command;
 mod failure;
-mod key_file;
 mod make;
 mod mistyped;
 mod samples;
 mod story;
 
 use crate::failure::FailureFromAllocError;
-use command::Command;
+use commands::call;
+use commands::call::Command;
 use failure::Failure;
 use failure::FailureDisplay;
 use failure::FailureFromIoError;
@@ -16,9 +15,9 @@ use std::env;
 
 fn run(rt: &LibcRuntime) -> Result<(), Failure> {
     let words = env::args(rt)?.collect::<Vec<String>>(rt.alloc())?;
-    match command::parse(words.as_slice()) {
+    match call::parse(words.as_slice()) {
         Some(Command::Story) => story::tell(rt),
-        Some(Command::Help) => Ok(rt.println(command::USAGE)?),
+        Some(Command::Help) => Ok(rt.println(call::USAGE)?),
         Some(
             Command::Make {
                 id,
@@ -37,6 +36,3 @@ fn main(rt: LibcRuntime) -> Result<(), Failure> {
     }
     outcome
 }
-
-#[cfg(test)]
-mod tests;

@@ -119,7 +119,7 @@ fn not_made(rt: &LibcRuntime) -> io::Result<()> {
     )
 }
 
-pub fn tell(rt: &LibcRuntime) -> Result<(), Failure> {
+pub(crate) fn tell(rt: &LibcRuntime) -> Result<(), Failure> {
     println!(rt, "A user permit, from its making to its refusal")?;
     println!(rt)?;
     let permit = made(rt)?;

@@ -1,3 +1,4 @@
+pub mod Accepting
 pub mod Agreement
 pub mod Altering
 pub mod Checksum

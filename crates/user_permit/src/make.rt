@@ -5,6 +5,7 @@ ghost use mathlib.Core.List.{_++_};
 ghost use mathlib.Core.Path.{_≡_};
 ghost use Prim.Native.Nat.{_≤_};
 ghost use Rattle.std.specs.Results.{isOk};
+ghost use Rattle.std.specs.Vec.{made as answers};
 ghost use Rattle.std.specs.declared.option.Option.the-variants.{Some};
 ghost use Rattle.bytes.specs.Output.{Writes};
 ghost use Rattle.user_permit.specs.Hardware.{hardwareId};
@@ -106,6 +107,7 @@ pub fn make<C: BlockCipher + Drop>(
     out: &mut [u8],
 ) -> Result<usize, MakeRefusal>
     ensures written { λ r. ⌜ Writes (making enc (now (id .entry)) (now (key .entry) .0) (now (hardware .entry) .0) (length (now (out .entry)))) r (now (out .entry)) (now (out .exit)) ⌝ }
+    ensures count { λ r. ⌜ answers r (λ n. n ≡ 46) ⌝ }
     ensures lawful { λ r. ⌜ (isOk r ≡ true → Lawful (take 46 (now (out .exit)))) ⌝ }
     ensures undone { λ r. ⌜ (isOk r ≡ true → hardwareId dec (now (key .entry) .0) (take 46 (now (out .exit))) ≡ now (hardware .entry) .0) ⌝ }
 {

@@ -1,4 +1,4 @@
-use mathlib.Core.Path.{_≡_, sym, ap, ap₂, subst, _∙_}
+use mathlib.Core.Path.{_≡_, refl, sym, ap, ap₂, subst, _∙_}
 use mathlib.Core.Bool.{true}
 use mathlib.Core.List.{_++_}
 use Prim.Native.Nat.{_≤_}
@@ -28,6 +28,7 @@ returns g c =
     c .compose .ensures ∙ ap₂ (λ e i. permitText e i ++ drop 46 before) (told .value) (read .1) in
     record {
       written = made-written E D id key hardware before _ (read .0) room block undoes is;
+      count = refl;
       lawful = λ _. made-lawful E D id key hardware before _ (read .0) room block undoes is;
       undone = λ _. made-undone E D id key hardware before _ (read .0) room block undoes is;
     }

@@ -3,8 +3,8 @@ use mathlib.Core.Bool.{false≢true}
 use native.Mathlib.Omega.{arith}
 use Rattle.std.proofs.shelf.Lists.{length-map}
 use Rattle.std.specs.Of.String.{string-bytes}
-use Rattle.permits.proofs.command.parse.Needs as need
-use Rattle.permits.proofs.command.parse.Needs.{else-words-eq2·by·then-words-eq2·else-eq, else-words-eq2·by·else-words-eq2, else-words-eq5·by·then-words-eq5·else-eq-2, else-words-eq5·by·else-words-eq5}
+use Rattle.commands.proofs.call.parse.Needs as need
+use Rattle.commands.proofs.call.parse.Needs.{else-words-eq2·by·then-words-eq2·else-eq, else-words-eq2·by·else-words-eq2, else-words-eq5·by·then-words-eq5·else-eq-2, else-words-eq5·by·else-words-eq5}
 
 pub returns-then-words-eq1 : need.returns-then-words-eq1
 returns-then-words-eq1 c = length-map _ _ ∙ c .if-words-eq1 .taken

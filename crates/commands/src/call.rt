@@ -2,7 +2,7 @@
 ghost use mathlib.Core.List.{map};
 ghost use mathlib.Core.Path.{_≡_};
 ghost use Rattle.std.specs.Of.String.{string-bytes};
-ghost use Rattle.permits.specs.Command.{Parses, word as wordAt};
+ghost use Rattle.commands.specs.Call.{Parses, word as wordAt};
 
 pub const USAGE: &str = "usage: permits
            tell the story of a user permit on built-in samples

@@ -4,7 +4,7 @@ use native.Mathlib.Omega.{arith}
 use lib.ListN.{length}
 use Rattle.std.proofs.shelf.Lists.{getD-map, getD-past, length-map}
 use Rattle.std.specs.Of.String.{string-bytes}
-use Rattle.permits.proofs.command.word.Needs as need
+use Rattle.commands.proofs.call.word.Needs as need
 
 pub returns-then-i-words : need.returns-then-i-words
 returns-then-i-words c =

@@ -1,7 +1,7 @@
 // Files of 32 hexadecimal digits, with or without a line feed behind them.
 ghost use mathlib.Core.Path.{_≡_};
 ghost use Rattle.std.specs.declared.option.Option.the-variants.{Some};
-ghost use Rattle.permits.specs.KeyFile.{ReadsKey, unended, keyFileNumber, keyFileWords};
+ghost use Rattle.commands.specs.KeyFile.{ReadsKey, unended, keyFileNumber, keyFileWords};
 use bytes::block::Block;
 use bytes::hex;
 use bytes::refusal::Refusal;

@@ -7,8 +7,8 @@ use lib.ListN.{length, getD}
 use denote.Ref.{now}
 use Rattle.std.specs.declared.option.Option.{Option}
 use Rattle.std.specs.declared.option.Option.the-variants.{Some, None}
-use Rattle.permits.specs.declared.command.Command.{Command}
-use Rattle.permits.specs.declared.command.Command.the-variants.{Story, Help, Make}
+use Rattle.commands.specs.declared.call.Command.{Command}
+use Rattle.commands.specs.declared.call.Command.the-variants.{Story, Help, Make}
 
 abbrev pub word : List (List ℕ) → ℕ → List ℕ
 word words i = getD words i []

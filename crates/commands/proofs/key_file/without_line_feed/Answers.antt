@@ -6,7 +6,7 @@ use lib.Dec.{eqb}
 use lib.ListN.{length}
 use Rattle.std.proofs.shelf.Lists.{getD-past}
 use Rattle.std.proofs.shelf.Tests.{cond-false}
-use Rattle.permits.proofs.key_file.without_line_feed.Needs as need
+use Rattle.commands.proofs.key_file.without_line_feed.Needs as need
 
 -- an empty text has no last byte
 pub returns-in-rest : need.returns-in-rest

@@ -1,0 +1,14 @@
+// The line of a refused command: `refused`, a tab, the number of the refusal, a tab and its words.
+use bytes::refusal::Refusal;
+use std::fmt;
+
+#[derive(Drop)]
+pub struct Refused<'a, R>(pub &'a R);
+
+pub impl<R: Refusal> fmt::Display for Refused<'_, R> as RefusedDisplay {
+    fn fmt<W: fmt::Write>(&self, f: &mut fmt::Formatter<W>) -> fmt::Result {
+        let refusal = self.0;
+        let number = refusal.number();
+        write!(f, "refused\t{number}\t{refusal}")
+    }
+}
