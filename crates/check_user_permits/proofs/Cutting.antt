@@ -1,10 +1,11 @@
 -- The first line of a text. Assumes nothing.
 use mathlib.Core.Path.{_≡_, ap, _∙_}
-use mathlib.Core.List.{List, [], _∷_}
+use mathlib.Core.List.{List, [], _∷_, _++_}
 use Prim.Native.Nat.{ℕ, zero, suc, _<_}
 use native.Mathlib.Nat.{le-of-suc-le-suc, not-suc-le-zero}
 use native.Mathlib.Omega.{arith}
 use lib.ListN.{length, getD, take, drop}
+use lib.Seq.{split-at}
 use Rattle.std.proofs.shelf.Tests.{cond-true, cond-false, eq-eqb, ne-eqb}
 use Rattle.check_user_permits.specs.Lines.{prepend, lines}
 
@@ -15,6 +16,9 @@ Unbroken t n = (k : ℕ) → k < n → getD t k 0 ≡ 10 → ⊥
 -- a byte that is not LF goes on the first line
 goes-on : (b : ℕ) (t : List ℕ) (n : ℕ) → Unbroken (b ∷ t) (suc n) → lines (b ∷ t) ≡ prepend b (lines t)
 goes-on b t n before = cond-false _ _ _ (ne-eqb b 10 (before 0 (omega arith)))
+
+pub cut-there : (t : List ℕ) (i : ℕ) → i < length t → getD t i 0 ≡ 10 → t ≡ take i t ++ 10 ∷ drop (suc i) t
+cut-there t i h here = split-at t i 0 h ∙ ap (λ b. take i t ++ b ∷ drop (suc i) t) here
 
 pub ended-line : (t : List ℕ) (i : ℕ) → i < length t → Unbroken t i → getD t i 0 ≡ 10 → lines t ≡ take i t ∷ lines (drop (suc i) t)
 ended-line [] i h before here = absurd (not-suc-le-zero h)

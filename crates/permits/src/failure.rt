@@ -17,6 +17,7 @@ pub enum Failure {
     NotMade(NotMade),
     Refused(CheckRefusal),
     Usage,
+    Unreadable(String, io::Error),
     Io(io::Error),
 }
 
@@ -26,6 +27,7 @@ pub impl fmt::Display for Failure as FailureDisplay {
             Failure::NotMade(refusal) => write!(f, "{}", Refused(refusal)),
             Failure::Refused(refusal) => write!(f, "{}", Refused(refusal)),
             Failure::Usage => f.write_str(USAGE),
+            Failure::Unreadable(file, error) => write!(f, "cannot read {file}: {error}"),
             Failure::Io(error) => write!(f, "{error}"),
         }
     }
