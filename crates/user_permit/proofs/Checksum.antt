@@ -13,6 +13,7 @@ use Rattle.std.proofs.shelf.Lists.{ext-getD, getD-take, getD-drop, getD-past, d
 use Rattle.std.proofs.shelf.Tests.{cases-lt}
 use Rattle.std.specs.Iters.{counting}
 use Rattle.bytes.specs.Bytes.{Small}
+use Rattle.bytes.proofs.Places.{same-before, same-from}
 use Rattle.user_permit.specs.Crc32.{polynomial, all-ones, shifted, shifts, byte-in, register, crc32, Examples}
 
 pub examples : Examples
@@ -187,15 +188,6 @@ bytes-take n bs h i =
 
 bytes-drop : (n : ℕ) (bs : List ℕ) → Small bs → Small (drop n bs)
 bytes-drop n bs h i = rw getD-drop (h (n + i))
-
-same-before : (k : ℕ) (t u : List ℕ) → length t ≡ length u → ((i : ℕ) → i < k → getD t i 0 ≡ getD u i 0) → take k t ≡ take k u
-same-before k t u l same =
-    ext-getD 0 (take k t) (take k u) (simp length-take (omega arith))
-    (λ i h. let lt : i < k = omega (arith, length-take k t) in simp getD-take (same i lt))
-
-same-from : (k : ℕ) (t u : List ℕ) → length t ≡ length u → ((i : ℕ) → k ≤ i → getD t i 0 ≡ getD u i 0) → drop k t ≡ drop k u
-same-from k t u l same =
-    ext-getD 0 (drop k t) (drop k u) (simp length-drop (omega arith)) (λ i h. simp getD-drop (same (k + i) (omega arith)))
 
 -- four bytes show in the sum, whatever stands before and after them
 four-between : (p xs ys s : List ℕ) → length xs ≡ 4 → length ys ≡ 4 → Small p → Small xs → Small ys → Small s

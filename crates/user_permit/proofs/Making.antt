@@ -74,30 +74,34 @@ module _ (encrypted id : List ℕ) (block : Bytes 16 encrypted) (rule : isManufa
   pub permit-block : unhex (take 32 (permitText encrypted id)) ≡ encrypted
   permit-block = ap unhex front ∙ hex-undone encrypted (block .small)
 
--- an output behind which the text stands
-module _ (E D : List ℕ → List ℕ → List ℕ) (id key hardware before after : List ℕ) (rule : isManufacturerId id ≡ true) (room : 46 ≤ length before) (block : Bytes 16 (E key hardware)) (undoes : D key (E key hardware) ≡ hardware) (is : after ≡ permitText (E key hardware) id ++ drop 46 before) where
+-- an output at whose front the text stands: `read` is the manufacturer ID as it was read, `encrypted` the block as it came
+module _ (E D : List ℕ → List ℕ → List ℕ) (id key hardware before after read encrypted : List ℕ) (rule : isManufacturerId id ≡ true) (same : read ≡ id) (room : 46 ≤ length before) (told : encrypted ≡ E key hardware) (block : Bytes 16 encrypted) (undoes : D key encrypted ≡ hardware) (is : after ≡ permitText encrypted read ++ drop 46 before) where
   made : List ℕ
-  made = permitText (E key hardware) id
+  made = permitText encrypted id
+
+  stands : after ≡ made ++ drop 46 before
+  unfolding made
+  stands = is ∙ ap (λ i. permitText encrypted i ++ drop 46 before) same
 
   length-made : length made ≡ 46
   unfolding made
-  length-made = length-permit (E key hardware) id block rule
+  length-made = length-permit encrypted id block rule
 
   first : take 46 after ≡ made
-  unfolding made
-  first = ap (take 46) is ∙ take-at made (drop 46 before) 46 length-made
+  first = ap (take 46) stands ∙ take-at made (drop 46 before) 46 length-made
 
   pub made-written : Writes (making E id key hardware (length before)) (Ok 46) before after
   unfolding made
   made-written =
-      let meaning = cond-true _ _ _ rule ∙ cond-true _ _ _ (le-leb 46 (length before) room) in
+      let meaning =
+      cond-true _ _ _ rule ∙ cond-true _ _ _ (le-leb 46 (length before) room) ∙ ap (λ e. Ok (permitText e id)) (sym told) in
       subst (λ m. Writes {E = MakeRefusal} m (Ok 46) before after) (sym meaning)
-      (ap Ok (sym length-made), is ∙ ap (λ n. made ++ drop n before) (sym length-made))
+      (ap Ok (sym length-made), stands ∙ ap (λ n. made ++ drop n before) (sym length-made))
 
   pub made-lawful : Lawful (take 46 after)
   unfolding made
-  made-lawful = subst Lawful (sym first) (permit-lawful (E key hardware) id block rule)
+  made-lawful = subst Lawful (sym first) (permit-lawful encrypted id block rule)
 
   pub made-undone : hardwareId D key (take 46 after) ≡ hardware
   unfolding made
-  made-undone = ap (λ t. D key (unhex (take 32 t))) first ∙ ap (D key) (permit-block (E key hardware) id block rule) ∙ undoes
+  made-undone = ap (λ t. D key (unhex (take 32 t))) first ∙ ap (D key) (permit-block encrypted id block rule) ∙ undoes

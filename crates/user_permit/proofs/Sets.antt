@@ -47,7 +47,7 @@ pub digits-of : (t bs : List ℕ) → Small bs → hex bs ≡ t → Digits t
 digits-of t bs small e = subst Digits e (hex-is-digits bs small)
 
 -- every character is ASCII, so the text is UTF-8
-digit-ascii : (c : ℕ) → isDigit c ≡ true → c < 128
+pub digit-ascii : (c : ℕ) → isDigit c ≡ true → c < 128
 digit-ascii c h = grind (arith, tells)
 
 id-ascii : (c : ℕ) → isIdCharacter c ≡ true → c < 128

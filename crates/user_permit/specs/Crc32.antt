@@ -1,7 +1,7 @@
 -- CRC-32 of ISO/IEC 13239, a bit at a time: the register is reflected, so that its lowest bit leaves it first.
 -- Assumes nothing.
 use mathlib.Core.Path.{_≡_}
-use mathlib.Core.List.{List}
+use mathlib.Core.List.{List, [], _∷_, map}
 use Prim.Native.Nat.{ℕ, zero, suc, _*_, _/_, _%_}
 use lib.Bits.{bitXor}
 use lib.Chars.{codes}
@@ -35,4 +35,4 @@ unfoldable pub crc32 : List ℕ → ℕ
 crc32 bs = bitXor (register all-ones bs) all-ones
 
 abbrev pub Examples : Type 0
-Examples = crc32 (codes "123456789") ≡ 0xCBF4_3926
+Examples = map crc32 (codes "123456789" ∷ codes "" ∷ []) ≡ 0xCBF4_3926 ∷ 0 ∷ []
