@@ -1,3 +1,4 @@
 pub mod Call
 pub mod KeyFile
 pub mod Make
+pub mod Refused

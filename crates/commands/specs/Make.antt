@@ -18,6 +18,10 @@ abbrev pub notMadeNumber : NotMade → ℕ
 notMadeNumber (KeyFile fault) = keyFileNumber fault
 notMadeNumber (Make refusal) = makeNumber refusal
 
+abbrev pub notMadeWords : NotMade → List ℕ
+notMadeWords (KeyFile fault) = keyFileWords fault
+notMadeWords (Make refusal) = makeWords refusal
+
 -- Two key files and a lawful manufacturer ID make the user permit of the one key under the other. The files are tried
 -- before the ID, and nothing else can be refused.
 abbrev pub Makes : (List ℕ → List ℕ → List ℕ) → List ℕ → List ℕ → List ℕ → Result UserPermit NotMade → Type 0

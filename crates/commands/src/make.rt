@@ -1,6 +1,7 @@
 // A user permit from a manufacturer ID and two key files.
 ghost use mathlib.Core.Path.{_≡_};
-ghost use Rattle.commands.specs.Make.{Makes, notMadeNumber};
+ghost use Rattle.std.specs.declared.option.Option.the-variants.{Some};
+ghost use Rattle.commands.specs.Make.{Makes, notMadeNumber, notMadeWords};
 ghost use Rattle.commands.specs.declared.make.NotMade.the-variants.{KeyFile, Make};
 use crate::key_file;
 use crate::key_file::KeyFileFault;
@@ -40,6 +41,8 @@ pub impl Refusal for NotMade as NotMadeRefusal {
 }
 
 pub impl fmt::Display for NotMade as NotMadeDisplay {
+    ghost shown = { λ e. Some (notMadeWords e) };
+
     fn fmt<W: fmt::Write>(&self, f: &mut fmt::Formatter<W>) -> fmt::Result {
         match self {
             NotMade::KeyFile(fault) => write!(f, "{fault}"),
