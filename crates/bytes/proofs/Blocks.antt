@@ -1,10 +1,9 @@
 -- Lists of n bytes, made and changed. Assumes nothing.
-use mathlib.Core.Path.{_≡_, subst, sym, _∙_}
+use mathlib.Core.Path.{_∙_}
 use mathlib.Core.List.{List, [], _∷_}
-use mathlib.Core.Logic.{⊎-elim}
 use Prim.Native.Nat.{ℕ, zero, suc, _<_}
 use native.Mathlib.Omega.{arith}
-use lib.ListN.{getD, set, replicate, length-set, length-replicate}
+use lib.ListN.{set, replicate, length-set, length-replicate}
 use Rattle.bytes.specs.Bytes.{Bytes, Small}
 
 small-zeros : (n : ℕ) → Small (replicate n 0)

@@ -1,13 +1,12 @@
 -- A test at each element of a list. Assumes nothing.
 use mathlib.Core.Path.{_≡_, refl, sym, ap, _∙_}
-use mathlib.Core.Bool.{Bool, true, false, _&&_}
+use mathlib.Core.Bool.{Bool, true, _&&_}
 use mathlib.Core.List.{List, [], _∷_, _++_}
 use Prim.Native.Nat.{ℕ, zero, suc, _+_, _<_, _≤_}
 use native.Mathlib.Nat.{le-of-suc-le-suc, not-suc-le-zero}
-use native.Mathlib.Omega.{arith}
 use lib.ListN.{length, drop, getD, set}
 use Rattle.std.proofs.shelf.Lists.{at-drop-more, at-drop-all}
-use Rattle.std.proofs.shelf.Tests.{and-parts, and-from, both-ways}
+use Rattle.std.proofs.shelf.Tests.{and-parts, and-from}
 use Rattle.bytes.specs.Bytes.{every}
 
 module _ (test : ℕ → Bool) where
@@ -16,11 +15,6 @@ module _ (test : ℕ → Bool) where
   every-at [] i h all = absurd (not-suc-le-zero h)
   every-at (x ∷ xs) zero h all = and-parts _ _ all .0
   every-at (x ∷ xs) (suc i) h all = every-at xs i (le-of-suc-le-suc h) (and-parts (test x) _ all .1)
-
-  pub every-from : (xs : List ℕ) → ((i : ℕ) → i < length xs → test (getD xs i 0) ≡ true) → every test xs ≡ true
-  unfolding every
-  every-from [] at = refl
-  every-from (x ∷ xs) at = and-from _ _ (at 0 (omega arith)) (every-from xs (λ i h. at (suc i) (omega arith)))
 
   pub every-append : (xs ys : List ℕ) → every test xs ≡ true → every test ys ≡ true → every test (xs ++ ys) ≡ true
   unfolding every
@@ -42,10 +36,6 @@ module _ (test : ℕ → Bool) where
   every-set (y ∷ ys) (suc i) x h all =
       let p = and-parts (test y) _ all in
       and-from _ _ (p .0) (every-set ys i x h (p .1))
-
-  -- one that fails is enough
-  pub every-fails : (xs : List ℕ) (i : ℕ) → i < length xs → test (getD xs i 0) ≡ false → every test xs ≡ true → ⊥
-  every-fails xs i h fails all = both-ways _ fails (every-at xs i h all)
 
   -- a loop over the elements: one step on, and at the end
   pub every-more : (xs : List ℕ) (i : ℕ) (b : Bool) → i < length xs → b ≡ test (getD xs i 0) → (b && every test (drop (i + 1) xs)) ≡ every test (drop i xs)

@@ -17,6 +17,7 @@ pub trait BlockCipher {
     // the key that a value was made for
     ghost held: { Self → List ℕ };
 
+    // the version
     ghost label: { List ℕ };
 
     law deciphered: { (k b : List ℕ) → Bytes 16 k → Bytes 16 b → dec k (enc k b) ≡ b };

@@ -7,8 +7,8 @@ use Prim.Native.Nat.{ℕ, _*_}
 use lib.Dec.{eqb}
 use lib.ListN.{length}
 use Rattle.std.proofs.shelf.Tests.{and-parts, and-from, cases-bool, eq-eqb, eqb-true}
-use Rattle.bytes.specs.Bytes.{Bytes, every}
-use Rattle.bytes.specs.Hex.{Digits, hex, unhex, isDigit}
+use Rattle.bytes.specs.Bytes.{Bytes}
+use Rattle.bytes.specs.Hex.{Digits, hex, unhex}
 use Rattle.bytes.proofs.Digits.{length-hex, hex-is-digits, hex-undone}
 use Rattle.commands.specs.KeyFile.{unended, isKeyFile, keyIn}
 

@@ -10,10 +10,12 @@ use Rattle.std.specs.declared.result.Result.{Result}
 use Rattle.std.specs.declared.result.Result.the-variants.{Ok, Err}
 use Rattle.bytes.specs.Bytes.{every}
 use Rattle.bytes.specs.Hex.{isDigit, unhex}
+use Rattle.fields.specs.Fault.{faultNumber}
 use Rattle.commands.specs.declared.key_file.KeyFileFault.{KeyFileFault}
 
+-- it is a field that breaks its rule
 abbrev pub keyFileNumber : KeyFileFault → ℕ
-keyFileNumber f = 4
+keyFileNumber f = faultNumber (record {})
 
 abbrev pub keyFileWords : KeyFileFault → List ℕ
 keyFileWords f = codes "a key file holds 32 hexadecimal digits, 0 to 9 and A to F"

@@ -5,6 +5,8 @@ ghost use Rattle.commands.specs.KeyFile.{ReadsKey, unended, keyFileNumber, key
 use bytes::block::Block;
 use bytes::hex;
 use bytes::refusal::Refusal;
+use fields::fault::FieldFault;
+use fields::fault::FieldFaultRefusal;
 use std::fmt;
 
 // The file holds something else.
@@ -15,7 +17,7 @@ pub impl Refusal for KeyFileFault as KeyFileFaultRefusal {
     ghost numbered = { keyFileNumber };
 
     fn number(&self) -> u8 {
-        4
+        FieldFault.number()
     }
 }
 

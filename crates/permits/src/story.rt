@@ -21,14 +21,13 @@ use user_permit::make::MakeRefusalDisplay;
 use user_permit::make::MakeRefusalNumber;
 use user_permit::make::make;
 use user_permit::permit::UserPermit;
-use user_permit::permit::UserPermitDisplay;
 
 type Cipher = Demonstration;
 
-fn made(rt: &LibcRuntime) -> Result<UserPermit, Failure> {
+fn made(rt: &LibcRuntime) -> Result<[u8; 46], Failure> {
     let mut text = [0; 46];
     make::<Cipher>(MANUFACTURER.as_bytes(), &KEY, &SHIP, &mut text)?;
-    let permit = check(&text)?;
+    let shown = String::from_utf8_lossy(rt.alloc(), &text)?;
     let [major, _, minor, _, patch] = Cipher::version();
     let major = char::from(major);
     let minor = char::from(minor);
@@ -47,15 +46,16 @@ fn made(rt: &LibcRuntime) -> Result<UserPermit, Failure> {
         rt,
         "   cipher version   {major}.{minor}.{patch}, for exhibitions: it hides nothing"
     )?;
-    println!(rt, "   user permit      {permit}")?;
+    println!(rt, "   user permit      {shown}")?;
     println!(
         rt,
         "                    |-- hardware ID, enciphered ---||-CRC--||-ID-|"
     )?;
-    Ok(permit)
+    Ok(text)
 }
 
-fn accepted(rt: &LibcRuntime) -> io::Result<()> {
+fn accepted(rt: &LibcRuntime, text: &[u8]) -> Result<UserPermit, Failure> {
+    let permit = check(text)?;
     println!(rt)?;
     println!(
         rt,
@@ -64,7 +64,8 @@ fn accepted(rt: &LibcRuntime) -> io::Result<()> {
     println!(
         rt,
         "   46 characters, each in its set, and the checksum agrees: accepted"
-    )
+    )?;
+    Ok(permit)
 }
 
 fn yes_or_no(answer: bool) -> &'static str {
@@ -72,7 +73,7 @@ fn yes_or_no(answer: bool) -> &'static str {
 }
 
 fn compared(rt: &LibcRuntime, permit: &UserPermit) -> io::Result<()> {
-    let mut working = [0; 16];
+    let mut working = [255; 16];
     let own = yes_or_no(permit.is_for::<Cipher>(&KEY, &SHIP, &mut working));
     let other = yes_or_no(permit.is_for::<Cipher>(&KEY, &OTHER_SHIP, &mut working));
     let wiped = yes_or_no(working == [0; 16]);
@@ -101,7 +102,7 @@ fn refused(rt: &LibcRuntime, permit: &UserPermit) -> Result<(), Failure> {
 }
 
 fn not_made(rt: &LibcRuntime) -> io::Result<()> {
-    let mut text = [0; 46];
+    let mut text = [b'-'; 46];
     println!(rt)?;
     println!(
         rt,
@@ -112,7 +113,7 @@ fn not_made(rt: &LibcRuntime) -> io::Result<()> {
         let number = refusal.number();
         println!(rt, "   refused by {number}     {refusal}")?;
     }
-    let untouched = yes_or_no(text == [0; 46]);
+    let untouched = yes_or_no(text == [b'-'; 46]);
     println!(
         rt,
         "   is the output as it was?                   {untouched}"
@@ -122,8 +123,8 @@ fn not_made(rt: &LibcRuntime) -> io::Result<()> {
 pub(crate) fn tell(rt: &LibcRuntime) -> Result<(), Failure> {
     println!(rt, "A user permit, from its making to its refusal")?;
     println!(rt)?;
-    let permit = made(rt)?;
-    accepted(rt)?;
+    let text = made(rt)?;
+    let permit = accepted(rt, &text)?;
     compared(rt, &permit)?;
     refused(rt, &permit)?;
     not_made(rt)?;

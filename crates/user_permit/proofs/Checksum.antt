@@ -9,7 +9,7 @@ use native.Mathlib.Omega.{arith}
 use lib.Bits.{bitAnd, bitXor, and-mask, xor-assoc, xor-comm, xor-self, xor-zero-r, xor-lt, xor-shr, xor-mod, xor-shifted, shifted-half, shifted-even}
 use lib.ListN.{length, getD, take, drop, length-take, length-drop, take-append-drop}
 use Rattle.std.proofs.shelf.Counted.{getD-map-counting}
-use Rattle.std.proofs.shelf.Lists.{ext-getD, getD-take, getD-drop, getD-past, drop-drop}
+use Rattle.std.proofs.shelf.Lists.{getD-take, getD-drop, getD-past, drop-drop}
 use Rattle.std.proofs.shelf.Tests.{cases-lt}
 use Rattle.std.specs.Iters.{counting}
 use Rattle.bytes.specs.Bytes.{Small}

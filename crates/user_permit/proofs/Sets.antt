@@ -5,7 +5,7 @@ use mathlib.Core.List.{List}
 use mathlib.Core.Logic.{⊎-elim}
 use Prim.Native.Nat.{ℕ, _+_, _-_, _<_}
 use native.Mathlib.Omega.{arith}
-use lib.ListN.{length, take, drop, getD, length-take, length-drop}
+use lib.ListN.{take, drop, getD, length-take, length-drop}
 use lib.Seq.{take-add}
 use Rattle.std.proofs.shelf.Ascii.{ascii-from-reads}
 use Rattle.std.proofs.shelf.Lists.{getD-take, getD-drop}

@@ -1,5 +1,4 @@
 use mathlib.Core.Path.{_≡_, _∙_}
-use Prim.Native.Nat.{_<_}
 use native.Mathlib.Omega.{arith}
 use lib.Bits.{bitXor}
 use lib.ListN.{length, getD, length-set}

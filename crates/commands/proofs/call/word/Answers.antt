@@ -1,7 +1,6 @@
-use mathlib.Core.Path.{_≡_, sym, ap, _∙_}
+use mathlib.Core.Path.{sym, ap, _∙_}
 use mathlib.Core.List.{map, []}
 use native.Mathlib.Omega.{arith}
-use lib.ListN.{length}
 use Rattle.std.proofs.shelf.Lists.{getD-map, getD-past, length-map}
 use Rattle.std.specs.Of.String.{string-bytes}
 use Rattle.commands.proofs.call.word.Needs as need

@@ -1,17 +1,16 @@
 use mathlib.Core.Path.{_≡_, sym, ap, subst, _∙_}
-use mathlib.Core.Bool.{true, false}
+use mathlib.Core.Bool.{false}
 use native.Mathlib.Omega.{arith}
 use lib.ListN.{length, take, drop, length-take, length-drop}
 use borrow.Author.Needs.{needs}
 use Rattle.std.proofs.shelf.Lists.{take-all}
 use Rattle.std.proofs.shelf.Tests.{and-parts, and-from, both-ways, eq-eqb}
-use Rattle.std.specs.declared.option.Option.the-variants.{None}
 use Rattle.bytes.specs.Hex.{unhex}
 use Rattle.bytes.proofs.Digits.{hex-undone}
 use Rattle.fields.specs.ManufacturerId.{isManufacturerId}
 use Rattle.user_permit.specs.Check.{Parted}
 use Rattle.user_permit.specs.Lawful.{inSets}
-use Rattle.user_permit.proofs.Sets.{InParts, from-parts, outside, digits-of}
+use Rattle.user_permit.proofs.Sets.{from-parts, outside, digits-of}
 use Rattle.user_permit.proofs.check.part.Needs as need
 
 pub returns-in-Break-encrypted : need.returns-in-Break-encrypted
