@@ -1,36 +1,23 @@
 -- The demonstration cipher is lawful. Assumes nothing.
 use mathlib.Core.Path.{_≡_, sym, ap}
 use mathlib.Core.List.{List, map}
-use mathlib.Core.Logic.{⊎-elim}
 use Prim.Native.Nat.{ℕ, _+_, _-_, _%_, _<_, _≤_}
 use native.Mathlib.Omega.{arith}
 use lib.ListN.{length, getD}
-use Rattle.std.proofs.shelf.Counted.{length-map-counting, getD-map-counting, fill-by-all}
-use Rattle.std.proofs.shelf.Lists.{getD-past}
-use Rattle.std.proofs.shelf.Tests.{cases-lt}
+use Rattle.std.proofs.shelf.Counted.{getD-map-counting, fill-by-all}
 use Rattle.std.specs.Iters.{counting}
 use Rattle.bytes.specs.Bytes.{Bytes}
+use Rattle.bytes.proofs.Blocks.{bytes-by-places}
 use Rattle.cipher.specs.Demonstration.{E, D, E-byte, D-byte}
-
--- sixteen bytes given by their places
-pub by-places : (f : ℕ → ℕ) → ((i : ℕ) → f i < 256) → Bytes 16 (map f (counting 0 16))
-by-places f small = record {
-  long = length-map-counting f 0 16;
-  small = λ i.
-      ⊎-elim
-      (λ lt. rw (getD-map-counting f 0 16 i i 0 lt (omega arith)) (small i))
-      (λ le. let long = length-map-counting f 0 16 in rw (getD-past (map f (counting 0 16)) i 0 (omega arith)) (omega arith))
-      (cases-lt i 16);
-}
 
 module _ (k b : List ℕ) (hk : Bytes 16 k) (hb : Bytes 16 b) where
   pub E-block : Bytes 16 (E k b)
   unfolding E
-  E-block = by-places (E-byte k b) (λ i. omega arith)
+  E-block = bytes-by-places 16 (E-byte k b) (λ i h. omega arith)
 
   pub D-block : Bytes 16 (D k b)
   unfolding D
-  D-block = by-places (D-byte k b) (λ i. omega arith)
+  D-block = bytes-by-places 16 (D-byte k b) (λ i h. omega arith)
 
   -- a block read at each place
   read : (f : ℕ → ℕ) → ((i : ℕ) → i < 16 → f i ≡ getD b i 0) → map f (counting 0 16) ≡ b

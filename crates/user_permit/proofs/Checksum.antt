@@ -14,25 +14,12 @@ use Rattle.std.proofs.shelf.Tests.{cases-lt}
 use Rattle.std.specs.Iters.{counting}
 use Rattle.bytes.specs.Bytes.{Small}
 use Rattle.bytes.proofs.Places.{same-before, same-from}
+use Rattle.bytes.proofs.Xor.{xor-pairs, xor-cancel}
 use Rattle.user_permit.specs.Crc32.{polynomial, all-ones, shifted, shifts, byte-in, register, crc32, Examples}
 
 pub examples : Examples
 unfolding shifted shifts byte-in register crc32
 examples = refl
-
--- exclusive or
-
-xor-pairs : (a b c d : ℕ) → bitXor (bitXor a b) (bitXor c d) ≡ bitXor (bitXor a c) (bitXor b d)
-xor-pairs a b c d =
-    xor-assoc a b (bitXor c d)
-    ∙ ap (bitXor a) (sym (xor-assoc b c d) ∙ ap (λ (x : ℕ). bitXor x d) (xor-comm b c) ∙ xor-assoc c b d)
-    ∙ sym (xor-assoc a c (bitXor b d))
-
-xor-undo : (a b : ℕ) → bitXor (bitXor a b) b ≡ a
-xor-undo a b = xor-assoc a b b ∙ ap (bitXor a) (xor-self b) ∙ xor-zero-r a
-
-xor-cancel : (a b c : ℕ) → bitXor a c ≡ bitXor b c → a ≡ b
-xor-cancel a b c e = sym (xor-undo a c) ∙ ap (λ (x : ℕ). bitXor x c) e ∙ xor-undo b c
 
 -- one bit, and n bits
 
