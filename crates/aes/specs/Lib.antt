@@ -1,0 +1,5 @@
+pub mod Cipher
+pub mod Expansion
+pub mod Polynomials
+pub mod Steps
+pub mod Substitution
