@@ -13,7 +13,7 @@ use Rattle.user_permit.specs.Check.{checkNumber, Checked}
 use Rattle.user_permit.specs.Lawful.{Lawful, checksumOf}
 use Rattle.user_permit.specs.declared.check.CheckRefusal.{CheckRefusal}
 use Rattle.user_permit.specs.declared.check.CheckRefusal.the-variants.{Length, Character, Checksum}
-use Rattle.check_user_permits.specs.Report.{verdict}
+use Rattle.check_user_permits.specs.Verdict.{verdict}
 
 module _ (t : List ℕ) where
   agrees : Decides (sameBytes (take 8 (drop 32 t)) (checksumOf (take 32 t))) (take 8 (drop 32 t) ≡ checksumOf (take 32 t))

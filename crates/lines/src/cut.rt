@@ -3,7 +3,7 @@ ghost use lib.ListN.{length};
 ghost use mathlib.Core.List.{_∷_};
 ghost use mathlib.Core.Path.{_≡_};
 ghost use Prim.Native.Nat.{_<_};
-ghost use Rattle.check_user_permits.specs.Lines.{lines, Cut};
+ghost use Rattle.lines.specs.Lines.{lines, Cut};
 
 // The first line of a text, and what follows it; of an empty text nothing twice.
 pub fn first_line(text: &[u8]) -> (&[u8], &[u8])

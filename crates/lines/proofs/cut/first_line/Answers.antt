@@ -5,8 +5,9 @@ use native.Mathlib.Numerals.{add-one}
 use native.Mathlib.Omega.{arith}
 use lib.ListN.{length-drop}
 use Rattle.std.proofs.shelf.Lists.{take-rest}
-use Rattle.check_user_permits.proofs.Cutting.{cut-there, ended-line, last-line}
-use Rattle.check_user_permits.proofs.lines.first_line.Needs as need
+use Rattle.lines.specs.Lines.{lines}
+use Rattle.lines.proofs.Cutting.{cut-there, ended-line, last-line}
+use Rattle.lines.proofs.cut.first_line.Needs as need
 
 pub returns-then-byte-eq10 : need.returns-then-byte-eq10
 returns-then-byte-eq10 c = record {
@@ -16,4 +17,5 @@ returns-then-byte-eq10 c = record {
 }
 
 pub returns : need.returns
+unfolding lines
 returns c = record { whole = inr (refl, refl); first = λ some. last-line _ some (λ k h. c .loop-i .inv k (omega arith)); shorter = λ some. some }

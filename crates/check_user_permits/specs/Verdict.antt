@@ -1,13 +1,12 @@
--- What is printed for a text. Assumes nothing.
+-- What is printed for a line. Assumes nothing.
 use mathlib.Core.Bool.{cond, not}
 use mathlib.Core.List.{List, [], _∷_, _++_}
-use Prim.Native.Nat.{ℕ, _+_}
+use Prim.Native.Nat.{ℕ}
 use lib.Dec.{eqb}
 use lib.ListN.{length, take, drop}
 use Rattle.std.specs.Written.{decimal}
 use Rattle.std.specs.shelf.Text.{sameBytes}
 use Rattle.user_permit.specs.Lawful.{inSets, checksumOf}
-use Rattle.check_user_permits.specs.Lines.{lines}
 
 -- 1: not 46 characters; 2: a character outside its set; 3: the checksum disagrees; 0: a user permit
 unfoldable pub verdict : List ℕ → ℕ
@@ -19,11 +18,3 @@ verdict t =
 -- a line's number, a tab, its verdict and LF
 abbrev pub row : ℕ → List ℕ → List ℕ
 row number line = decimal number ++ (9 ∷ (decimal (verdict line) ++ (10 ∷ [])))
-
--- a row for each line, numbered from here on
-abbrev pub rows : ℕ → List (List ℕ) → List ℕ
-rows number [] = []
-rows number (line ∷ more) = row number line ++ rows (number + 1) more
-
-abbrev pub reportOf : List ℕ → List ℕ
-reportOf input = rows 1 (lines input)

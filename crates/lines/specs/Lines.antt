@@ -16,6 +16,6 @@ prepend b [] = (b ∷ []) ∷ []
 prepend b (line ∷ more) = (b ∷ line) ∷ more
 
 -- LF, the byte 10, ends a line; behind the last one it may be missing
-abbrev pub lines : List ℕ → List (List ℕ)
+unfoldable pub lines : List ℕ → List (List ℕ)
 lines [] = []
 lines (b ∷ t) = cond (eqb b 10) ([] ∷ lines t) (prepend b (lines t))

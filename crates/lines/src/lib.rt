@@ -1,0 +1,3 @@
+// A text line by line, and the report that has a row for each line.
+pub mod cut;
+pub mod report;
