@@ -3,8 +3,8 @@ use crate::failure::Failure;
 use crate::failure::FailureFromAllocError;
 use crate::failure::FailureFromIoError;
 use crate::failure::FailureFromNotMade;
-use cipher::demonstration::Demonstration;
-use cipher::demonstration::DemonstrationCipher;
+use aes::aes128::Aes128;
+use aes::aes128::Aes128Cipher;
 use commands::make::user_permit;
 use std::fs;
 use user_permit::permit::UserPermitDisplay;
@@ -24,7 +24,7 @@ pub(crate) fn run(
 ) -> Result<(), Failure> {
     let key = contents(rt, key_file)?;
     let hardware = contents(rt, hardware_file)?;
-    let permit = user_permit::<Demonstration>(id.as_bytes(), key.as_slice(), hardware.as_slice())?;
+    let permit = user_permit::<Aes128>(id.as_bytes(), key.as_slice(), hardware.as_slice())?;
     println!(rt, "{permit}")?;
     Ok(())
 }

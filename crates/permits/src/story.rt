@@ -10,9 +10,9 @@ use crate::samples::MANUFACTURER;
 use crate::samples::OTHER_SHIP;
 use crate::samples::SHIP;
 use crate::samples::UNLAWFUL;
+use aes::aes128::Aes128;
+use aes::aes128::Aes128Cipher;
 use bytes::refusal::Refusal;
-use cipher::demonstration::Demonstration;
-use cipher::demonstration::DemonstrationCipher;
 use std::io;
 use user_permit::check::CheckRefusalDisplay;
 use user_permit::check::CheckRefusalNumber;
@@ -21,36 +21,41 @@ use user_permit::make::MakeRefusalDisplay;
 use user_permit::make::MakeRefusalNumber;
 use user_permit::make::make;
 use user_permit::permit::UserPermit;
+use user_permit::secrets::HardwareId;
 
-type Cipher = Demonstration;
-
-fn made(rt: &LibcRuntime) -> Result<[u8; 46], Failure> {
+fn system(rt: &LibcRuntime, hardware: &HardwareId) -> Result<[u8; 46], Failure> {
     let mut text = [0; 46];
-    make::<Cipher>(MANUFACTURER.as_bytes(), &KEY, &SHIP, &mut text)?;
+    make::<Aes128>(MANUFACTURER.as_bytes(), &KEY, hardware, &mut text)?;
     let shown = String::from_utf8_lossy(rt.alloc(), &text)?;
-    let [major, _, minor, _, patch] = Cipher::version();
-    let major = char::from(major);
-    let minor = char::from(minor);
-    let patch = char::from(patch);
-    let [first, .., last] = SHIP.0;
-    println!(
-        rt,
-        "1. A manufacturer makes a user permit for one of its chart systems."
-    )?;
-    println!(rt, "   manufacturer ID  {MANUFACTURER}")?;
+    let [first, .., last] = hardware.0;
     println!(
         rt,
         "   hardware ID      {first:02X}............................{last:02X}"
     )?;
+    println!(rt, "   user permit      {shown}")?;
+    Ok(text)
+}
+
+fn made(rt: &LibcRuntime) -> Result<[u8; 46], Failure> {
+    let [major, _, minor, _, patch] = Aes128::version();
+    let major = char::from(major);
+    let minor = char::from(minor);
+    let patch = char::from(patch);
     println!(
         rt,
-        "   cipher version   {major}.{minor}.{patch}, for exhibitions: it hides nothing"
+        "1. A manufacturer makes user permits for two of its chart systems."
     )?;
-    println!(rt, "   user permit      {shown}")?;
+    println!(
+        rt,
+        "   cipher           AES-128, version {major}.{minor}.{patch}"
+    )?;
+    println!(rt, "   manufacturer ID  {MANUFACTURER}")?;
+    let text = system(rt, &SHIP)?;
     println!(
         rt,
         "                    |-- hardware ID, enciphered ---||-CRC--||-ID-|"
     )?;
+    let _ = system(rt, &OTHER_SHIP)?;
     Ok(text)
 }
 
@@ -59,7 +64,7 @@ fn accepted(rt: &LibcRuntime, text: &[u8]) -> Result<UserPermit, Failure> {
     println!(rt)?;
     println!(
         rt,
-        "2. The permit issuer checks the user permit that came with an order."
+        "2. The permit issuer checks the first, which came with an order."
     )?;
     println!(
         rt,
@@ -74,8 +79,8 @@ fn yes_or_no(answer: bool) -> &'static str {
 
 fn compared(rt: &LibcRuntime, permit: &UserPermit) -> io::Result<()> {
     let mut working = [255; 16];
-    let own = yes_or_no(permit.is_for::<Cipher>(&KEY, &SHIP, &mut working));
-    let other = yes_or_no(permit.is_for::<Cipher>(&KEY, &OTHER_SHIP, &mut working));
+    let own = yes_or_no(permit.is_for::<Aes128>(&KEY, &SHIP, &mut working));
+    let other = yes_or_no(permit.is_for::<Aes128>(&KEY, &OTHER_SHIP, &mut working));
     let wiped = yes_or_no(working == [0; 16]);
     println!(rt)?;
     println!(
@@ -109,7 +114,7 @@ fn not_made(rt: &LibcRuntime) -> io::Result<()> {
         "5. No user permit is made for a manufacturer ID that breaks its rule."
     )?;
     println!(rt, "   manufacturer ID  {UNLAWFUL}")?;
-    if let Err(refusal) = make::<Cipher>(UNLAWFUL.as_bytes(), &KEY, &SHIP, &mut text) {
+    if let Err(refusal) = make::<Aes128>(UNLAWFUL.as_bytes(), &KEY, &SHIP, &mut text) {
         let number = refusal.number();
         println!(rt, "   refused by {number}     {refusal}")?;
     }
