@@ -23,7 +23,7 @@ each f g all b small =
     ∙ getD-map-counting g 0 256 b b (f b) small (omega arith)
 
 -- and at two bytes
-pub pairs : (f g : ℕ → ℕ → ℕ)
+pairs : (f g : ℕ → ℕ → ℕ)
     → map (λ a. map (f a) (counting 0 256)) (counting 0 256) ≡ map (λ a. map (g a) (counting 0 256)) (counting 0 256)
     → (a b : ℕ) → a < 256 → b < 256 → f a b ≡ g a b
 pairs f g all a b ha hb = each (f a) (g a) (each (λ a. map (f a) (counting 0 256)) (λ a. map (g a) (counting 0 256)) all a ha) b hb

@@ -48,12 +48,12 @@ next-bytes nk i w some le each = bytes-⊕ (each (i - nk) (omega arith)) (turned
 
 -- nk + n words
 module _ (nk : ℕ) (k : List ℕ) where
-  pub expanded-long : (n : ℕ) → length (expanded nk k n) ≡ nk + n
+  expanded-long : (n : ℕ) → length (expanded nk k n) ≡ nk + n
   unfolding expanded
   expanded-long zero = length-map-counting (λ i. word (λ r. getD k (4 * i + r) 0)) 0 nk ∙ omega arith
   expanded-long (suc n) = let before = expanded-long n in length-append (expanded nk k n) _ ∙ omega arith
 
-  pub expanded-bytes : 0 < nk → Bytes (4 * nk) k → (n i : ℕ) → i < nk + n → Bytes 4 (getD (expanded nk k n) i [])
+  expanded-bytes : 0 < nk → Bytes (4 * nk) k → (n i : ℕ) → i < nk + n → Bytes 4 (getD (expanded nk k n) i [])
   unfolding expanded
   expanded-bytes some h zero i hi =
       rw (getD-map-counting (λ i. word (λ r. getD k (4 * i + r) 0)) 0 nk i i [] (omega arith) (omega arith))

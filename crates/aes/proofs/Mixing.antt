@@ -96,7 +96,7 @@ module _ (k l m n : ℕ) where
       (product-add 8 n d d′ hd hd′)
       ∙ xor-pairs (bitXor (bitXor (k · a) (l · b)) (m · c)) (bitXor (bitXor (k · a′) (l · b′)) (m · c′)) (n · d) (n · d′)
 
-  sum-small : (a b c d : ℕ) → Four-bytes a b c d → sum a b c d < 256
+  pub sum-small : (a b c d : ℕ) → Four-bytes a b c d → sum a b c d < 256
   sum-small a b c d (ha, hb, hc, hd) =
       xor-lt 8 _ _ (xor-lt 8 _ _ (xor-lt 8 _ _ (product-small 8 k a ha) (product-small 8 l b hb)) (product-small 8 m c hc)) (product-small 8 n d hd)
 
@@ -156,7 +156,7 @@ two-steps-first : (b : ℕ) → b < 256 → both 2 3 1 1 5 0 4 0 (four b 0 0 0) 
 unfolding times-x product mixed both
 two-steps-first = each (λ b. both 2 3 1 1 5 0 4 0 (four b 0 0 0)) (λ b. mixed 0x0E 0x0B 0x0D 0x09 (four b 0 0 0)) refl
 
-pub in-two-steps : (a b c d : ℕ) → Four-bytes a b c d → mixed 2 3 1 1 (mixed 5 0 4 0 (four a b c d)) ≡ mixed 0x0E 0x0B 0x0D 0x09 (four a b c d)
+in-two-steps : (a b c d : ℕ) → Four-bytes a b c d → mixed 2 3 1 1 (mixed 5 0 4 0 (four a b c d)) ≡ mixed 0x0E 0x0B 0x0D 0x09 (four a b c d)
 unfolding both
 in-two-steps =
     agree (both 2 3 1 1 5 0 4 0) (mixed 0x0E 0x0B 0x0D 0x09) (both-linear 2 3 1 1 5 0 4 0)

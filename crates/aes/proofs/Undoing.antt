@@ -3,17 +3,15 @@ use mathlib.Core.Path.{_≡_, refl, sym, ap, ap₂, _∙_}
 use mathlib.Core.List.{List, []}
 use Prim.Native.Nat.{ℕ, _+_, _-_, _*_, _/_, _%_, _<_}
 use native.Mathlib.Omega.{arith}
-use lib.Bits.{xor-lt}
 use lib.ListN.{getD}
 use Rattle.std.proofs.shelf.Counted.{getD-map-counting, fill-by-all}
 use Rattle.bytes.specs.Bytes.{Bytes, _⊕_}
 use Rattle.bytes.proofs.Blocks.{bytes-by-places}
 use Rattle.bytes.proofs.Xor.{bytes-⊕, ⊕-undo}
-use Rattle.aes.specs.Polynomials.{_·_}
 use Rattle.aes.specs.Steps.{State, at, state, block, SubBytes, InvSubBytes, ShiftRows, InvShiftRows, mixed, MixColumns, InvMixColumns, AddRoundKey}
 use Rattle.aes.specs.Substitution.{S, InvS}
 use Rattle.aes.proofs.Box.{InvS-S, S-InvS, S-small, InvS-small}
-use Rattle.aes.proofs.Mixing.{product-small, four, unmixed, remixed}
+use Rattle.aes.proofs.Mixing.{four, sum-small, unmixed, remixed}
 use Rattle.aes.proofs.States.{Lawful, at-column, at-square, lawful-columns, by-columns, by-word, by-square}
 
 -- blocks
@@ -95,8 +93,7 @@ module _ (s : State) (h : Lawful s) where
   mixed-bytes : (k l m n c : ℕ) → c < 4 → Bytes 4 (mixed k l m n (getD s c []))
   unfolding mixed
   mixed-bytes k l m n c hc =
-      let p : (a r : ℕ) → a · at s c r < 256 = λ a r. product-small 8 a (at s c r) (small c r hc) in
-      bytes-by-places 4 _ (λ r hr. xor-lt 8 _ _ (xor-lt 8 _ _ (xor-lt 8 _ _ (p k ((r + 0) % 4)) (p l ((r + 1) % 4))) (p m ((r + 2) % 4))) (p n ((r + 3) % 4)))
+      bytes-by-places 4 _ (λ r hr. sum-small k l m n _ _ _ _ (small c ((r + 0) % 4) hc, small c ((r + 1) % 4) hc, small c ((r + 2) % 4) hc, small c ((r + 3) % 4) hc))
 
   pub MixColumns-lawful : Lawful (MixColumns s)
   unfolding MixColumns
