@@ -36,7 +36,7 @@ pub(crate) fn mix_columns(s: State) -> State
     [mix_column(a), mix_column(b), mix_column(c), mix_column(d)]
 }
 
-// The inverse matrix is the matrix times one with four products by 4, so that no product by 9, 11, 13 or 14 is needed.
+// The inverse matrix is the matrix times one with the coefficients 5, 0, 4, 0, so that doubling is all that is needed.
 fn inv_mix_column(w: Column) -> Column
     ensures { λ r. ⌜ r ≡ mixed 0x0E 0x0B 0x0D 0x09 w ⌝ }
 {
