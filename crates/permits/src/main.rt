@@ -1,4 +1,6 @@
 // The product. With no argument it tells one whole story on built-in samples and prints an account of it.
+#![tactic(auto)]
+
 mod failure;
 mod make;
 mod mistyped;
@@ -9,6 +11,7 @@ use commands::call;
 use commands::call::Command;
 use failure::Failure;
 use std::env;
+use std::process::ExitCode;
 
 fn run(rt: &HostRuntime) -> Result<(), Failure> {
     let words = env::args(rt)?.collect::<Vec<String>>(rt.alloc())?;
@@ -26,10 +29,12 @@ fn run(rt: &HostRuntime) -> Result<(), Failure> {
     }
 }
 
-fn main(rt: HostRuntime) -> Result<(), Failure> {
-    let outcome = run(&rt);
-    if let Err(failure) = &outcome {
-        let _ = eprintln!(rt; "{failure}");
+fn main(rt: HostRuntime) -> ExitCode {
+    match run(&rt) {
+        Ok(()) => ExitCode::SUCCESS,
+        Err(failure) => {
+            let _ = eprintln!(rt; "{failure}");
+            ExitCode::FAILURE
+        }
     }
-    outcome
 }
