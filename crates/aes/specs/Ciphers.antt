@@ -120,13 +120,13 @@ module _ (k b : List ℕ) (hk : Bytes 16 k) (hb : Bytes 16 b) where
   keyed : (n : ℕ) → n ≤ 10 → Lawful (round_key (key_words k) n)
   keyed n le = round_key_lawful 4 40 n k (omega arith) hk (omega arith)
 
-  pub enc_block-sixteen : Bytes 16 (enc_block k b)
+  pub enc_block_sixteen : Bytes 16 (enc_block k b)
   unfolding enc_block
-  enc_block-sixteen = cipher_bytes (key_words k) 10 keyed b hb
+  enc_block_sixteen = cipher_bytes (key_words k) 10 keyed b hb
 
-  pub dec_block-sixteen : Bytes 16 (dec_block k b)
+  pub dec_block_sixteen : Bytes 16 (dec_block k b)
   unfolding dec_block
-  dec_block-sixteen = inv_cipher_bytes (key_words k) 10 keyed b hb
+  dec_block_sixteen = inv_cipher_bytes (key_words k) 10 keyed b hb
 
   pub dec_block_undoes_enc_block : dec_block k (enc_block k b) ≡ b
   unfolding enc_block dec_block

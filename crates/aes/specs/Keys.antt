@@ -10,7 +10,7 @@ use Rattle.std.proofs.lemmas.Bool.{cases_lt, cond-true, cond-false, eq-eqb, ne_e
 use Rattle.std.specs.List.{range_with_len}
 use Rattle.octets.specs.Bytes.{Bytes, ◌⊕◌}
 use Rattle.octets.proofs.Blocks.{bytes_zeros, bytes_set, bytes_by_places}
-use Rattle.octets.proofs.Xor.{bytes-⊕}
+use Rattle.octets.proofs.Xor.{Bytes-⊕}
 use Rattle.aes.specs.Cipher.{round_key}
 use Rattle.aes.specs.Expansion.{rot_word, rcon, turned, next, expanded}
 use Rattle.aes.specs.Polynomials.{power}
@@ -36,12 +36,12 @@ either false hv hw = hw
 
 turned_bytes : (nk i : ℕ) (t : List ℕ) → Bytes 4 t → Bytes 4 (turned nk i t)
 turned_bytes nk i t h =
-    either (i % nk == 0) (bytes-⊕ (sub_word_bytes (rot_word t)) (rcon_bytes (i / nk)))
+    either (i % nk == 0) (Bytes-⊕ (sub_word_bytes (rot_word t)) (rcon_bytes (i / nk)))
     (either (nat_lt 6 nk && i % nk == 4) (sub_word_bytes t) h)
 
 next_bytes : (nk i : ℕ) (w : List (List ℕ)) → 0 < nk → nk ≤ i → ((j : ℕ) → j < i → Bytes 4 (slice_index_or w j [])) → Bytes 4 (next nk w i)
 unfolding next
-next_bytes nk i w some le each = bytes-⊕ (each (i - nk) (omega arith)) (turned_bytes nk i (slice_index_or w (i - 1) []) (each (i - 1) (omega arith)))
+next_bytes nk i w some le each = Bytes-⊕ (each (i - nk) (omega arith)) (turned_bytes nk i (slice_index_or w (i - 1) []) (each (i - 1) (omega arith)))
 
 -- nk + n words
 module _ (nk : ℕ) (k : List ℕ) where

@@ -6,7 +6,7 @@ use native.Mathlib.Omega.{arith}
 use Rattle.std.proofs.lemmas.List.FromFn.{get_or-map-range_with_len, fill_by_all}
 use Rattle.octets.specs.Bytes.{Bytes, ◌⊕◌}
 use Rattle.octets.proofs.Blocks.{bytes_by_places}
-use Rattle.octets.proofs.Xor.{bytes-⊕, ⊕_undo}
+use Rattle.octets.proofs.Xor.{Bytes-⊕, ⊕_undo}
 use Rattle.aes.specs.Steps.{State, at, state, block, sub_bytes, inv_sub_bytes, shift_rows, inv_shift_rows, mixed, mix_columns, inv_mix_columns, add_round_key}
 use Rattle.aes.specs.Substitution.{s_box, inv_s_box}
 use Rattle.aes.specs.Box.{inv_s_box-s_box, s_box-inv_s_box, s_box_small, inv_s_box_small}
@@ -128,7 +128,7 @@ module _ (s : State) (h : Lawful s) where
   module _ (k : State) (hk : Lawful k) where
     pub add_round_key_lawful : Lawful (add_round_key s k)
     unfolding add_round_key
-    add_round_key_lawful = lawful_columns _ (λ c hc. bytes-⊕ (h.column c hc) (hk.column c hc))
+    add_round_key_lawful = lawful_columns _ (λ c hc. Bytes-⊕ (h.column c hc) (hk.column c hc))
 
     pub key_undone : add_round_key (add_round_key s k) k ≡ s
     unfolding add_round_key

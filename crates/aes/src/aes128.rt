@@ -1,8 +1,8 @@
 // AES-128, version 1.0.0.
 ghost use Rattle.std.specs.Prelude.{◌≡◌, codes};
 ghost use Rattle.aes.specs.Cipher.{key_words, enc_block, dec_block, Examples};
-ghost use Rattle.aes.specs.Ciphers.{dec_block_undoes_enc_block, enc_block_undoes_dec_block, enc_block-sixteen, dec_block-sixteen};
-ghost use Rattle.std.proofs.Common.{rules, arith};
+ghost use Rattle.aes.specs.Ciphers.{dec_block_undoes_enc_block, enc_block_undoes_dec_block, enc_block_sixteen, dec_block_sixteen};
+ghost use Rattle.std.proofs.Common.{rules};
 
 use crate::columns::{inv_mix_columns, mix_columns};
 use crate::key_schedule::{WORDS, Word, expand, round_key};
@@ -35,11 +35,11 @@ impl BlockCipher for Aes128 {
 
     ghost enciphered = { enc_block_undoes_dec_block };
 
-    ghost enc_sixteen = { enc_block-sixteen };
+    ghost enc_sixteen = { enc_block_sixteen };
 
-    ghost dec_sixteen = { dec_block-sixteen };
+    ghost dec_sixteen = { dec_block_sixteen };
 
-    ghost labelled = { first_of (Prim.search rules, Prim.grind (arith, Self.row.coded.inj)) };
+    ghost labelled = { Prim.search rules };
 
     fn version() -> [u8; 5] {
         *b"1.0.0"

@@ -1,4 +1,6 @@
 // Answers test vectors of AES-128: for each line of standard input a block, enciphered and deciphered.
+#![tactic(auto)]
+
 mod answer;
 mod hex_text;
 mod repeat;

@@ -6,7 +6,7 @@ use cipher::block_cipher::BlockCipher;
 use octets::block::Block;
 
 pub fn encipher<C: BlockCipher>(cipher: &C, count: u16, mut block: Block) -> Block
-    ensures { result ≡ repeated (enc (held cipher.now)) count block }
+    ensures { result ≡ repeated (C.enc (C.held cipher.now)) count block }
 {
     for _ in 0..count {
         // an array that a call answers is proved only in a variable of its own
@@ -17,7 +17,7 @@ pub fn encipher<C: BlockCipher>(cipher: &C, count: u16, mut block: Block) -> Blo
 }
 
 pub fn decipher<C: BlockCipher>(cipher: &C, count: u16, mut block: Block) -> Block
-    ensures { result ≡ repeated (dec (held cipher.now)) count block }
+    ensures { result ≡ repeated (C.dec (C.held cipher.now)) count block }
 {
     for _ in 0..count {
         let next = cipher.decipher(block);

@@ -1,4 +1,6 @@
 // Checks each line of standard input as a user permit, and prints its number and the number of its refusal.
+#![tactic(auto)]
+
 mod verdict;
 
 use lines::report::report;

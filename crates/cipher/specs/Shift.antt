@@ -1,5 +1,5 @@
 -- The demonstration cipher is lawful. Assumes nothing.
-use Rattle.std.specs.Prelude.{◌≡◌, ℕ, ◌+◌, ◌-◌, ◌%◌, ◌<◌, ◌≤◌, List, map, length, slice_index, slice_index_or}
+use Rattle.std.specs.Prelude.{◌≡◌, ℕ, ◌+◌, ◌%◌, ◌<◌, ◌≤◌, List, map, length, slice_index, slice_index_or}
 use Rattle.std.proofs.Common.{sym}
 use Rattle.std.proofs.Math.Path.{ap}
 use native.Mathlib.Omega.{arith}
@@ -10,13 +10,13 @@ use Rattle.octets.proofs.Blocks.{bytes_by_places}
 use Rattle.cipher.specs.Demonstration.{enc_block, dec_block, enc_byte, dec_byte}
 
 module _ (k b : List ℕ) (hk : Bytes 16 k) (hb : Bytes 16 b) where
-  pub enc_block-sixteen : Bytes 16 (enc_block k b)
+  pub enc_block_sixteen : Bytes 16 (enc_block k b)
   unfolding enc_block
-  enc_block-sixteen = bytes_by_places 16 (enc_byte k b) (λ i h. omega arith)
+  enc_block_sixteen = bytes_by_places 16 (enc_byte k b) (λ i h. omega arith)
 
-  pub dec_block-sixteen : Bytes 16 (dec_block k b)
+  pub dec_block_sixteen : Bytes 16 (dec_block k b)
   unfolding dec_block
-  dec_block-sixteen = bytes_by_places 16 (dec_byte k b) (λ i h. omega arith)
+  dec_block_sixteen = bytes_by_places 16 (dec_byte k b) (λ i h. omega arith)
 
   -- a block read at each place
   read : (f : ℕ → ℕ) → ((i : ℕ) → i < 16 → f i ≡ slice_index b i) → map f (range_with_len 0 16) ≡ b

@@ -1,7 +1,7 @@
 // The demonstration cipher, version 0.0.1, for exhibition sets.
 ghost use Rattle.std.specs.Prelude.{◌≡◌, codes};
 ghost use Rattle.cipher.specs.Demonstration.{enc_block, dec_block, Examples};
-ghost use Rattle.cipher.specs.Shift.{dec_block_undoes_enc_block, enc_block_undoes_dec_block, enc_block-sixteen, dec_block-sixteen};
+ghost use Rattle.cipher.specs.Shift.{dec_block_undoes_enc_block, enc_block_undoes_dec_block, enc_block_sixteen, dec_block_sixteen};
 ghost use Rattle.std.proofs.Common.{rules};
 
 use crate::block_cipher::BlockCipher;
@@ -25,9 +25,9 @@ impl BlockCipher for Demonstration {
 
     ghost enciphered = { enc_block_undoes_dec_block };
 
-    ghost enc_sixteen = { enc_block-sixteen };
+    ghost enc_sixteen = { enc_block_sixteen };
 
-    ghost dec_sixteen = { dec_block-sixteen };
+    ghost dec_sixteen = { dec_block_sixteen };
 
     ghost labelled = { Prim.search rules };
 

@@ -6,8 +6,8 @@ use crate::block_cipher::BlockCipher;
 use octets::block::Block;
 
 pub fn keyed<C: BlockCipher>(key: &Block) -> C
-    ensures kept { held result ≡ key.now }
-    ensures lawful { LawfulUnder enc dec key.now }
+    ensures kept { C.held result ≡ key.now }
+    ensures lawful { LawfulUnder C.enc C.dec key.now }
 {
     C::new(key)
 }

@@ -6,17 +6,17 @@ use crate::block_cipher::BlockCipher;
 use octets::block::Block;
 
 pub fn encipher<C: BlockCipher + Drop>(key: &Block, block: &Block) -> Block
-    ensures value { result ≡ enc key.now block.now }
+    ensures value { result ≡ C.enc key.now block.now }
     ensures sixteen { Bytes 16 result }
-    ensures undone { dec key.now result ≡ block.now }
+    ensures undone { C.dec key.now result ≡ block.now }
 {
     C::new(key).encipher(*block)
 }
 
 pub fn decipher<C: BlockCipher + Drop>(key: &Block, block: &Block) -> Block
-    ensures value { result ≡ dec key.now block.now }
+    ensures value { result ≡ C.dec key.now block.now }
     ensures sixteen { Bytes 16 result }
-    ensures undone { enc key.now result ≡ block.now }
+    ensures undone { C.enc key.now result ≡ block.now }
 {
     C::new(key).decipher(*block)
 }

@@ -63,7 +63,7 @@ pub fn user_permit<C: BlockCipher + Drop>(
     key_file: &[u8],
     hardware_file: &[u8],
 ) -> Result<UserPermit, NotMade>
-    ensures { Makes enc id.now key_file.now hardware_file.now result }
+    ensures { Makes C.enc id.now key_file.now hardware_file.now result }
 {
     let key = ManufacturerKey(key_file::read(key_file)?);
     let hardware = HardwareId(key_file::read(hardware_file)?);

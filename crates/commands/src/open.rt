@@ -62,7 +62,7 @@ pub fn open_with_file<C: BlockCipher + Drop>(
     sealed: &[u8],
     out: &mut [u8],
 ) -> Result<usize, NotOpened>
-    ensures written { Writes (opening_with_file dec key_file.now sealed.now (length out.old)) result out.old out.new }
+    ensures written { Writes (opening_with_file C.dec key_file.now sealed.now (length out.old)) result out.old out.new }
     ensures within { IfOk result (λ n. n ≤ length out.old) }
 {
     let key = DatasetKey(key_file::read(key_file)?);

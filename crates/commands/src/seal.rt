@@ -66,7 +66,7 @@ pub fn seal_with_file<C: BlockCipher + Drop>(
     dataset: &[u8],
     out: &mut [u8],
 ) -> Result<usize, NotSealed>
-    ensures written { WritesSuch (not_sealed key_file.now (length dataset.now) (length out.old)) (Sealed enc (key_in key_file.now) lead.now.0 start.now.0 dataset.now) result out.old out.new }
+    ensures written { WritesSuch (not_sealed key_file.now (length dataset.now) (length out.old)) (Sealed C.enc (key_in key_file.now) lead.now.0 start.now.0 dataset.now) result out.old out.new }
     ensures count { IfOk result (λ n. n ≡ sealed_length (length dataset.now)) }
 {
     let key = DatasetKey(key_file::read(key_file)?);

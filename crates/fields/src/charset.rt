@@ -10,7 +10,7 @@ pub trait Charset {
 }
 
 pub fn keeps_to<S: Charset>(text: &[u8]) -> bool
-    ensures { result ≡ every member text.now }
+    ensures { result ≡ every S.member text.now }
 {
     for c in text {
         if !S::contains(*c) {

@@ -1,4 +1,6 @@
 // The fields of texts and files: a type and one reading function for each. A value of such a type keeps its rule.
+#![tactic(auto)]
+
 pub mod charset;
 pub mod fault;
 pub mod manufacturer_id;

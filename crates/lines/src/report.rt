@@ -15,7 +15,7 @@ pub trait Row {
 }
 
 pub fn report<R: Row>(heap: Global, input: &[u8]) -> Result<String, AllocError>
-    ensures { IfOk result (λ s. string_bytes s ≡ report_of row input.now) }
+    ensures { IfOk result (λ s. string_bytes s ≡ report_of R.Row.row input.now) }
 {
     let mut text = String::new(heap);
     let mut rest = input;

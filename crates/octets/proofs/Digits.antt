@@ -21,8 +21,8 @@ length-hex (b ∷ bs) = let h = length-hex bs in omega arith
 
 -- a digit is in the set, and has its number
 module _ (n : ℕ) (h : n < 16) where
-  is_digit : is_digit (digit n) ≡ true
-  is_digit = grind (arith, nat_tests)
+  is_digit-digit : is_digit (digit n) ≡ true
+  is_digit-digit = grind (arith, nat_tests)
 
   value-digit : value (digit n) ≡ n
   value-digit = grind (arith, nat_tests)
@@ -31,7 +31,7 @@ digits-hex : (bs : List ℕ) → All (λ b. b < 256) bs → Digits (hex bs)
 unfolding hex every
 digits-hex [] h = refl
 digits-hex (b ∷ bs) h =
-    and_from _ _ (is_digit (b / 16) (omega (arith, h.0))) (and_from _ _ (is_digit (b % 16) (omega arith)) (digits-hex bs h.1))
+    and_from _ _ (is_digit-digit (b / 16) (omega (arith, h.0))) (and_from _ _ (is_digit-digit (b % 16) (omega arith)) (digits-hex bs h.1))
 
 unhex-hex : (bs : List ℕ) → All (λ b. b < 256) bs → unhex (hex bs) ≡ bs
 unfolding hex unhex

@@ -33,14 +33,14 @@ by_places n xs ys zs hx hy hz each =
     let long = length-⊕ xs ys (omega arith) in
     ext_get_or 0 zs (xs ⊕ ys) (omega arith) (λ k h. each k (omega arith) ∙ sym (get_or-⊕ xs ys k (omega arith) (omega arith)))
 
-small-⊕ : (xs ys : List ℕ) → Small xs → Small ys → Small (xs ⊕ ys)
-small-⊕ [] ys hx hy i = hx i
-small-⊕ (x ∷ xs) [] hx hy i = hy i
-small-⊕ (x ∷ xs) (y ∷ ys) hx hy zero = xor_lt 8 x y (hx 0) (hy 0)
-small-⊕ (x ∷ xs) (y ∷ ys) hx hy (suc i) = small-⊕ xs ys (λ j. hx (suc j)) (λ j. hy (suc j)) i
+Small-⊕ : (xs ys : List ℕ) → Small xs → Small ys → Small (xs ⊕ ys)
+Small-⊕ [] ys hx hy i = hx i
+Small-⊕ (x ∷ xs) [] hx hy i = hy i
+Small-⊕ (x ∷ xs) (y ∷ ys) hx hy zero = xor_lt 8 x y (hx 0) (hy 0)
+Small-⊕ (x ∷ xs) (y ∷ ys) hx hy (suc i) = Small-⊕ xs ys (λ j. hx (suc j)) (λ j. hy (suc j)) i
 
-pub bytes-⊕ : {n : ℕ} {xs ys : List ℕ} → Bytes n xs → Bytes n ys → Bytes n (xs ⊕ ys)
-bytes-⊕ hx hy = record { long = length-⊕ _ _ (hx.long ∙ sym hy.long) ∙ hx.long; small = small-⊕ _ _ hx.small hy.small }
+pub Bytes-⊕ : {n : ℕ} {xs ys : List ℕ} → Bytes n xs → Bytes n ys → Bytes n (xs ⊕ ys)
+Bytes-⊕ hx hy = record { long = length-⊕ _ _ (hx.long ∙ sym hy.long) ∙ hx.long; small = Small-⊕ _ _ hx.small hy.small }
 
 undo : (xs ys : List ℕ) → length xs ≡ length ys → xs ⊕ ys ⊕ ys ≡ xs
 undo [] ys e = refl

@@ -1,12 +1,12 @@
 -- The plain blocks of an opening, put together. Assumes nothing.
-use Rattle.std.proofs.Common.{◌≡◌, ℕ, zero, suc, ◌+◌, ◌-◌, ◌*◌, ◌/◌, ◌%◌, ◌<◌, ◌≤◌, true, false, ◌&&◌, eqb, leb, List, [], ◌∷◌, ◌++◌, length, take, drop, Ok, Err, sym, refl, ap, ◌∙◌, subst, ap₂, append_assoc, append-nil, add-one, arith, length-append}
+use Rattle.std.proofs.Common.{◌≡◌, ℕ, zero, suc, ◌+◌, ◌-◌, ◌*◌, ◌/◌, ◌%◌, ◌<◌, ◌≤◌, true, false, ◌&&◌, eqb, leb, List, [], ◌++◌, length, take, drop, Ok, Err, sym, refl, ap, ◌∙◌, subst, ap₂, append_assoc, append-nil, add-one, arith, length-append}
 use Rattle.std.proofs.lemmas.List.{take_at, drop_at, drop-drop, length-take-le}
 use Rattle.std.proofs.lemmas.Slice.{drop-append-drop}
 use Rattle.std.proofs.lemmas.Bool.{cond-true, cond-false, and_parts, leb-true, eqb-true, le-leb, lt-leb}
 use Rattle.std.specs.List.{range_with_len, flat_map}
 use Rattle.octets.specs.Bytes.{Bytes, Small, ◌⊕◌}
 use Rattle.octets.specs.Output.{Writes}
-use Rattle.octets.proofs.Xor.{bytes-⊕}
+use Rattle.octets.proofs.Xor.{Bytes-⊕}
 use Rattle.sealing.specs.Blocks.{block}
 use Rattle.sealing.specs.Open.{is_sealed_length, plain_block, plain, opening, delivered}
 use Rattle.sealing.specs.Padding.{last_byte, is_padded, unpadded}
@@ -64,7 +64,7 @@ module _ (D : List ℕ → List ℕ → List ℕ) (key sealed : List ℕ) (sixte
   pub bytes_plain-block : (j : ℕ) → 16 * j + 32 ≤ length sealed → Bytes 16 (plain_block D key sealed (1 + j))
   bytes_plain-block j h =
       subst (Bytes 16) (sym (plain-block_is D key sealed j))
-      (bytes-⊕ (sixteen (block (suc (suc j)) sealed) (bytes_block (suc j) sealed (omega arith) small)) (bytes_block j sealed (omega arith) small))
+      (Bytes-⊕ (sixteen (block (suc (suc j)) sealed) (bytes_block (suc j) sealed (omega arith) small)) (bytes_block j sealed (omega arith) small))
 
   module _ (n : ℕ) (count : length sealed ≡ 16 * n + 16) where
     each : (j : ℕ) → j < n → length (plain_block D key sealed (1 + j)) ≡ 16

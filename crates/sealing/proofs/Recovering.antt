@@ -1,8 +1,8 @@
 -- What was sealed under a key opens under it. Assumes nothing.
-use Rattle.std.proofs.Common.{◌≡◌, ℕ, zero, suc, ◌+◌, ◌*◌, ◌/◌, ◌%◌, ◌<◌, ◌≤◌, true, List, length, sym, refl, ap, ◌∙◌, subst, ap₂, add-one, arith}
+use Rattle.std.proofs.Common.{◌≡◌, ℕ, suc, ◌+◌, ◌*◌, ◌/◌, ◌<◌, ◌≤◌, true, List, length, sym, ap, ◌∙◌, add-one, arith}
 use Rattle.std.proofs.lemmas.Bool.{and_from, cond-true, le-leb, eq-eqb}
-use Rattle.octets.specs.Bytes.{Bytes, Small, ◌⊕◌}
-use Rattle.octets.proofs.Xor.{bytes-⊕, ⊕_undo}
+use Rattle.octets.specs.Bytes.{Bytes, ◌⊕◌}
+use Rattle.octets.proofs.Xor.{Bytes-⊕, ⊕_undo}
 use Rattle.cipher.specs.Keyed.{Laws}
 use Rattle.sealing.specs.Blocks.{block}
 use Rattle.sealing.specs.Padding.{padded, unpadded, is_padded}
@@ -37,7 +37,7 @@ module _ (E D : List ℕ → List ℕ → List ℕ) (key : List ℕ) (law : Laws
 
     -- D takes a sealed block to what was enciphered
     pub summed : (j : ℕ) → j < blocks → D key (block (suc (suc j)) sealed) ≡ block (suc j) (padded dataset) ⊕ block (suc j) sealed
-    summed j lt = ap (D key) (sealed_later j lt) ∙ law.deciphered _ (bytes-⊕ (bytes_padded-block j lt) (bytes_sealed_block j (omega arith)))
+    summed j lt = ap (D key) (sealed_later j lt) ∙ law.deciphered _ (Bytes-⊕ (bytes_padded-block j lt) (bytes_sealed_block j (omega arith)))
 
     pub plain-block : (j : ℕ) → j < blocks → D key (block (suc (suc j)) sealed) ⊕ block (suc j) sealed ≡ block (suc j) (padded dataset)
     plain-block j lt = ap (λ x. x ⊕ block (suc j) sealed) (summed j lt) ∙ ⊕_undo (bytes_padded-block j lt) (bytes_sealed_block j (omega arith))

@@ -1,4 +1,6 @@
 // Sealed datasets: sealing, and opening under a known key, over every lawful block cipher.
+#![tactic(auto)]
+
 mod blocks;
 pub mod open;
 mod padding;

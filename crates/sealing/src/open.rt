@@ -72,7 +72,7 @@ fn is_sealed_length(count: usize) -> bool
 // A block of the padded dataset, by its place from 0.
 fn plain_block<C: BlockCipher>(cipher: &C, sealed: &[u8], i: usize) -> Block
     requires { 16 * i + 32 ≤ length sealed.now }
-    ensures { result ≡ plain_block dec (held cipher.now) sealed.now (i + 1) }
+    ensures { result ≡ plain_block C.dec (C.held cipher.now) sealed.now (i + 1) }
 {
     xor(
         cipher.decipher(blocks::read(sealed, i + 1)),
@@ -82,8 +82,8 @@ fn plain_block<C: BlockCipher>(cipher: &C, sealed: &[u8], i: usize) -> Block
 
 // Writes the dataset. Its length is known from the last block alone, so nothing is stored before it is sure to fit.
 fn open_by<C: BlockCipher>(cipher: &C, sealed: &[u8], out: &mut [u8]) -> Result<usize, OpenRefusal>
-    requires { Keyed enc dec (held cipher.now) }
-    ensures { Writes (opening dec (held cipher.now) sealed.now (length out.old)) result out.old out.new }
+    requires { Keyed C.enc C.dec (C.held cipher.now) }
+    ensures { Writes (opening C.dec (C.held cipher.now) sealed.now (length out.old)) result out.old out.new }
 {
     if !is_sealed_length(sealed.len()) {
         return Err(OpenRefusal::Length);
@@ -107,10 +107,10 @@ pub fn open_with_key<C: BlockCipher + Drop>(
     sealed: &[u8],
     out: &mut [u8],
 ) -> Result<usize, OpenRefusal>
-    ensures written { Writes (opening dec key.now.0 sealed.now (length out.old)) result out.old out.new }
+    ensures written { Writes (opening C.dec key.now.0 sealed.now (length out.old)) result out.old out.new }
     ensures within { IfOk result (λ n. n ≤ length out.old) }
-    ensures recovered { Recovers enc key.now.0 sealed.now result out.old out.new }
-    ensures damaged { Withstands enc key.now.0 sealed.now result out.old out.new }
+    ensures recovered { Recovers C.enc key.now.0 sealed.now result out.old out.new }
+    ensures damaged { Withstands C.enc key.now.0 sealed.now result out.old out.new }
 {
     let cipher = keyed::<C>(&key.0);
     open_by(&cipher, sealed, out)

@@ -73,9 +73,9 @@ pub fn seal<C: BlockCipher + Drop>(
     dataset: &[u8],
     out: &mut [u8],
 ) -> Result<usize, SealRefusal>
-    ensures written { WritesSuch (seal_refused (length dataset.now) (length out.old)) (Sealed enc key.now.0 lead.now.0 start.now.0 dataset.now) result out.old out.new }
+    ensures written { WritesSuch (seal_refused (length dataset.now) (length out.old)) (Sealed C.enc key.now.0 lead.now.0 start.now.0 dataset.now) result out.old out.new }
     ensures count { IfOk result (λ n. n ≡ sealed_length (length dataset.now)) }
-    ensures distinct { IfOk result (λ n. Distinct enc key.now.0 dataset.now (take n out.new)) }
+    ensures distinct { IfOk result (λ n. Distinct C.enc key.now.0 dataset.now (take n out.new)) }
     ensures examples { Examples }
 {
     let Some(count) = sealed_length(dataset.len()) else {

@@ -1,4 +1,6 @@
 // The two calls for C, over AES-128. include/s100_sealing.h declares them.
+#![tactic(auto)]
+
 ghost use Rattle.std.specs.Prelude.{◌≡◌, ◌^◌, ◌<◌, IfOk};
 ghost use Rattle.aes.specs.Cipher.{enc_block, dec_block};
 ghost use Rattle.sealing_c.specs.Calls.{answered, sixteen_bytes, SealsForC, OpensForC};

@@ -24,17 +24,17 @@ bit_times (suc zero) (suc zero) p hx hy = zero-mul p ∙ sym (xor_self (1 * p))
 bit_times (suc zero) (suc (suc y)) p hx hy = absurd (omega arith)
 bit_times (suc (suc x)) y p hx hy = absurd (omega arith)
 
-pub shifted-xor : (x y : ℕ) → shifted (bit_xor x y) ≡ bit_xor (shifted x) (shifted y)
+pub shifted_xor : (x y : ℕ) → shifted (bit_xor x y) ≡ bit_xor (shifted x) (shifted y)
 unfolding shifted
-shifted-xor x y =
+shifted_xor x y =
     ap₂ (λ (a b : ℕ). bit_xor a (b * polynomial)) (xor_shr x y 1) (xor_mod x y 1)
     ∙ ap (bit_xor (bit_xor (x / 2) (y / 2))) (bit_times (x % 2) (y % 2) polynomial (omega arith) (omega arith))
     ∙ xor_pairs (x / 2) (y / 2) (x % 2 * polynomial) (y % 2 * polynomial)
 
-pub shifts-xor : (n x y : ℕ) → shifts n (bit_xor x y) ≡ bit_xor (shifts n x) (shifts n y)
+pub shifts_xor : (n x y : ℕ) → shifts n (bit_xor x y) ≡ bit_xor (shifts n x) (shifts n y)
 unfolding shifts
-shifts-xor zero x y = refl
-shifts-xor (suc n) x y = ap (shifts n) (shifted-xor x y) ∙ shifts-xor n (shifted x) (shifted y)
+shifts_xor zero x y = refl
+shifts_xor (suc n) x y = ap (shifts n) (shifted_xor x y) ∙ shifts_xor n (shifted x) (shifted y)
 
 pub shifts_fit : (n x : ℕ) → x < 2 ^ 32 → shifts n x < 2 ^ 32
 unfolding shifts shifted
@@ -63,7 +63,7 @@ shifts_zero (suc n) x h e = shifted_zero x h (shifts_zero n (shifted x) (shifts_
 
 pub shifts_one_to_one : (n x y : ℕ) → x < 2 ^ 32 → y < 2 ^ 32 → shifts n x ≡ shifts n y → x ≡ y
 shifts_one_to_one n x y hx hy e =
-    let none = shifts-xor n x y ∙ ap (λ (z : ℕ). bit_xor z (shifts n y)) e ∙ xor_self (shifts n y) in
+    let none = shifts_xor n x y ∙ ap (λ (z : ℕ). bit_xor z (shifts n y)) e ∙ xor_self (shifts n y) in
     xor_cancel x y y (shifts_zero n (bit_xor x y) (xor_lt 32 x y hx hy) none ∙ sym (xor_self y))
 
 -- bytes
@@ -81,7 +81,7 @@ unfolding byte_in
 byte_below r b n h =
     ap (λ (x : ℕ). shifts 8 (bit_xor r x)) (sym (xor_shifted n 8 b h) ∙ xor_comm (n * 256) b)
     ∙ ap (shifts 8) (sym (xor_assoc r b (n * 256)))
-    ∙ shifts-xor 8 (bit_xor r b) (n * 256)
+    ∙ shifts_xor 8 (bit_xor r b) (n * 256)
     ∙ ap (bit_xor (shifts 8 (bit_xor r b))) (shifts_whole 8 n)
 
 -- the step by a table of what each byte does to a register of 0

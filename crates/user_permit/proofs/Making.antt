@@ -1,5 +1,5 @@
 -- The text that is made is lawful, and its first digits tell the block. Assumes nothing.
-use Rattle.std.proofs.Common.{◌≡◌, ℕ, ◌+◌, ◌*◌, ◌≤◌, true, eqb, List, ◌++◌, length, take, drop, Ok, sym, ap, ◌∙◌, subst, append_assoc, arith, length-append}
+use Rattle.std.proofs.Common.{◌≡◌, ℕ, ◌*◌, ◌≤◌, true, eqb, List, ◌++◌, length, take, drop, Ok, sym, ap, ◌∙◌, subst, append_assoc, arith, length-append}
 use Rattle.std.proofs.lemmas.List.{take_at, drop_at}
 use Rattle.std.proofs.lemmas.Bool.{and_parts, eqb-true, cond-true, le-leb}
 use Rattle.octets.specs.Bytes.{Bytes, every}
@@ -16,9 +16,9 @@ use Rattle.user_permit.proofs.Agreement.{big_endian_small}
 use Rattle.user_permit.proofs.Composing.{length-checksum_of}
 use Rattle.user_permit.proofs.Sets.{from_parts}
 
-checksum-digits : (t : List ℕ) → Digits (checksum_of t)
+checksum_digits : (t : List ℕ) → Digits (checksum_of t)
 unfolding checksum_of
-checksum-digits t = hex_is_digits (big_endian (crc32 t)) (big_endian_small (crc32 t))
+checksum_digits t = hex_is_digits (big_endian (crc32 t)) (big_endian_small (crc32 t))
 
 module _ (encrypted id : List ℕ) (block : Bytes 16 encrypted) (rule : is_manufacturer_id id ≡ true) where
   long_digits : length (hex encrypted) ≡ 32
@@ -58,7 +58,7 @@ module _ (encrypted id : List ℕ) (block : Bytes 16 encrypted) (rule : is_manuf
     length-permit_text,
     from_parts _ (record {
       encrypted = subst Digits (sym front) (hex_is_digits encrypted block.small);
-      checksum = subst Digits (sym sum) (checksum-digits (hex encrypted));
+      checksum = subst Digits (sym sum) (checksum_digits (hex encrypted));
       manufacturer = ap (every is_id_character) back ∙ (and_parts (eqb (length id) 6) _ rule).1;
     }),
     sum ∙ ap checksum_of (sym front),

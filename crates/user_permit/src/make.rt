@@ -92,10 +92,10 @@ pub fn make<C: BlockCipher + Drop>(
     hardware: &HardwareId,
     out: &mut [u8],
 ) -> Result<usize, MakeRefusal>
-    ensures written { Writes (making enc id.now key.now.0 hardware.now.0 (length out.old)) result out.old out.new }
+    ensures written { Writes (making C.enc id.now key.now.0 hardware.now.0 (length out.old)) result out.old out.new }
     ensures count { IfOk result (λ n. n ≡ 46) }
     ensures lawful { is_ok result ≡ true → Lawful (take 46 out.new) }
-    ensures undone { is_ok result ≡ true → hardware_id dec key.now.0 (take 46 out.new) ≡ hardware.now.0 }
+    ensures undone { is_ok result ≡ true → hardware_id C.dec key.now.0 (take 46 out.new) ≡ hardware.now.0 }
 {
     let id = ManufacturerId::read(id)?;
     room_for(46, out)?;

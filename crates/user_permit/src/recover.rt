@@ -12,7 +12,7 @@ use octets::working::Working;
 impl UserPermit {
     // Puts the hardware ID into the working buffer, which the guard's end wipes.
     pub fn recover<C: BlockCipher + Drop>(&self, key: &ManufacturerKey, working: &mut Working<'_>)
-        ensures held { working.new.bytes.now ≡ hardware_id dec key.now.0 self.now.text }
+        ensures held { working.new.bytes.now ≡ hardware_id C.dec key.now.0 self.now.text }
         ensures lent { working.new.bytes.ghost_name ≡ working.old.bytes.ghost_name }
     {
         working.put(single::decipher::<C>(&key.0, &self.encrypted));
@@ -25,7 +25,7 @@ impl UserPermit {
         hardware: &HardwareId,
         buffer: &mut Block,
     ) -> bool
-        ensures answer { Decides result (hardware_id dec key.now.0 self.now.text ≡ hardware.now.0) }
+        ensures answer { Decides result (hardware_id C.dec key.now.0 self.now.text ≡ hardware.now.0) }
         ensures wiped { buffer.new ≡ replicate 16 0 }
     {
         let mut working = Working::over(buffer);

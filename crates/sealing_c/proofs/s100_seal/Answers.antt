@@ -11,8 +11,8 @@ returns c =
     let after = c.seal.new.out in
     let same : to_z w64 (of_z w64 c.answer.result) ≡ c.answer.result = search rules in
     let sealed = c.seal.ensures in
-    let lead = sixteen_bytes c.args.lead-hi c.args.lead-lo in
-    let start = sixteen_bytes c.args.start-hi c.args.start-lo in
+    let lead = sixteen_bytes c.args.lead_hi c.args.lead_lo in
+    let start = sixteen_bytes c.args.start_hi c.args.start_lo in
     subst (λ key. SealsForC enc_block key lead start dataset z before after) c.block.ensures
     (subst (λ x. SealsForC enc_block c.block.result x start dataset z before after) c.block-2.ensures
     (subst (λ x. SealsForC enc_block c.block.result c.block-2.result x dataset z before after) c.block-3.ensures

@@ -19,7 +19,7 @@ loop-i-preserved c =
     let i = c.loop-i.i in
     let before = get_or w (i - 1) [] in
     let is : c.if-i-eq0.turned ≡ turned 4 i before = elim c.if-i-eq0.branch [
-      | then-i-eq0 t ↦ t.turned-is ∙ t.constant-step-turned.ensures ∙ turned_first i _ before t.if-i-eq0.true (power_at (i / 4 - 1) (omega (arith, c.loop-i-test.true)))
+      | then-i-eq0 t ↦ t.turned-is ∙ t.constant_step-turned.ensures ∙ turned_first i _ before t.if-i-eq0.true (power_at (i / 4 - 1) (omega (arith, c.loop-i-test.true)))
       | else-i-eq0 t ↦ t.turned-is ∙ turned_other i before t.if-i-eq0.false
     ] in
     (length-set _ _ _ ∙ c.loop-i.invariant.0, one_more _ _ w i c.loop-i.auto.i (omega (arith, c.loop-i.invariant.0, c.loop-i-test.true)) c.loop-i.invariant.1 (c.xor.ensures ∙ ap (λ t. get_or w (i - 4) [] ⊕ t) is))

@@ -14,30 +14,30 @@ returns-then-line-ne70 c =
       | then-line-ne70-via-else-line-ne70+else-line-ne32+then-line-ne32-2 w ↦ omega arith
     ])
 
-pub returns-in-err-count : goal.returns-in-err-count
-returns-in-err-count c =
+pub returns-in_err-count : goal.returns-in_err-count
+returns-in_err-count c =
     let t = c.args.line.now in
-    let none = outside t (λ f. c.in-err-count.ensures (simp length-take (omega arith)) f.count) in
-    subst (Reads t) (sym c.from-residual.ensures) none
+    let none = outside t (λ f. c.in_err-count.ensures (simp length-take (omega arith)) f.count) in
+    subst (Reads t) (sym c.from_residual.ensures) none
 
-pub returns-in-err-key : goal.returns-in-err-key
-returns-in-err-key c =
+pub returns-in_err-key : goal.returns-in_err-key
+returns-in_err-key c =
     let t = c.args.line.now in
-    let none = outside t (λ f. c.in-err-key.ensures (simp (length-take, length-drop) (omega arith)) f.key) in
-    subst (Reads t) (sym c.from-residual-in-err-key.ensures) none
+    let none = outside t (λ f. c.in_err-key.ensures (simp (length-take, length-drop) (omega arith)) f.key) in
+    subst (Reads t) (sym c.from_residual-in_err-key.ensures) none
 
-pub returns-in-err-block : goal.returns-in-err-block
-returns-in-err-block c =
+pub returns-in_err-block : goal.returns-in_err-block
+returns-in_err-block c =
     let t = c.args.line.now in
-    let none = outside t (λ f. c.in-err-block.ensures (simp (length-take, length-drop) (omega arith)) f.block) in
-    subst (Reads t) (sym c.from-residual-in-err-block.ensures) none
+    let none = outside t (λ f. c.in_err-block.ensures (simp (length-take, length-drop) (omega arith)) f.block) in
+    subst (Reads t) (sym c.from_residual-in_err-block.ensures) none
 
 pub returns : goal.returns
 returns c =
     let t = c.args.line.now in
-    let count = c.in-ok-count.ensures in
-    let key = c.in-ok-key.ensures in
-    let block = c.in-ok-block.ensures in (
+    let count = c.in_ok-count.ensures in
+    let key = c.in_ok-key.ensures in
+    let block = c.in_ok-block.ensures in (
       inside t (record {
         long = omega arith;
         first = omega arith;
@@ -46,7 +46,7 @@ returns c =
         key = subst Digits key.1 (hex_is_digits _ key.0.small);
         block = subst Digits block.1 (hex_is_digits _ block.0.small);
       }),
-      c.from-be-bytes.ensures ∙ ap number (sym (hex_undone _ count.0.small) ∙ ap unhex count.1),
+      c.from_be_bytes.ensures ∙ ap number (sym (hex_undone _ count.0.small) ∙ ap unhex count.1),
       sym (hex_undone _ key.0.small) ∙ ap unhex key.1,
       sym (hex_undone _ block.0.small) ∙ ap unhex block.1,
     )

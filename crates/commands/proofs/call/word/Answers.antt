@@ -4,7 +4,7 @@ use Rattle.commands.proofs.call.word.Goals as goal
 
 pub returns-then-i-words : goal.returns-then-i-words
 returns-then-i-words c =
-    c.as-str.ensures.value ∙ ap string_bytes c.index-words-i.is
+    c.as_str.ensures.value ∙ ap string_bytes c.index-words-i.is
     ∙ sym (get_or-map string_bytes c.args.words.now c.args.i c.index-words-i.result [] c.if-i-words.true)
 
 pub returns-else-i-words : goal.returns-else-i-words

@@ -9,17 +9,17 @@ pub unreachable-requires : goal.unreachable-requires
 unreachable-requires g c =
     let out = c.make.new.out in
     let long : length out ≡ 46 = search rules in
-    let lawful = subst Lawful (take_all 46 out (omega arith)) (c.in-ok-make.ensures.lawful (refl {a = true})) in
+    let lawful = subst Lawful (take_all 46 out (omega arith)) (c.in_ok-make.ensures.lawful (refl {a = true})) in
     not_refused out _ lawful c.in-Err.ensures.answer
 
 pub returns : goal.returns
 returns g c =
     let E = g.C.BlockCipher.enc in
     let id = c.args.id.now in
-    let key = c.in-ok-read.ensures in
-    let hardware = c.in-ok-read-2.ensures in
-    let told = c.in-ok-make.ensures in
-    let made = only_text E id _ _ (replicate 46 0) c.make.new.out c.in-ok-make.field-0 (refl {a = 46}) told.count told.written in (
+    let key = c.in_ok-read.ensures in
+    let hardware = c.in_ok-read-2.ensures in
+    let told = c.in_ok-make.ensures in
+    let made = only_text E id _ _ (replicate 46 0) c.make.new.out c.in_ok-make.field-0 (refl {a = 46}) told.count told.written in (
       and_from _ _ key.0 hardware.0,
       made.0,
       c.in-Ok.ensures.answer.1 ∙ made.1 ∙ ap₂ (λ k h. permit_text (E k h) id) key.1 hardware.1,

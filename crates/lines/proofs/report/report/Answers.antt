@@ -15,8 +15,8 @@ pub loop-rest-preserved : goal.loop-rest-preserved
 loop-rest-preserved g c =
     let rest = c.loop-rest.rest.now in
     let some : 0 < length rest = omega (arith, eqb-false (length rest) 0 (sym c.loop-rest-test.ensures)) in
-    let told = c.first-line.ensures in
-    let grown : string_bytes c.push-str.new.self ≡ string_bytes c.loop-rest.text ++ g.R.Row.row (c.loop-rest.number + 1) c.first-line.result.0.now = search rules in
+    let told = c.first_line.ensures in
+    let grown : string_bytes c.push_str.new.self ≡ string_bytes c.loop-rest.text ++ g.R.Row.row (c.loop-rest.number + 1) c.first_line.result.0.now = search rules in
     (one_more g.R.Row.row _ _ _ _ _ _ grown (told.first some) ∙ c.loop-rest.invariant.0, omega (arith, told.shorter some))
 
 pub returns : goal.returns

@@ -11,15 +11,15 @@ loop-i-init g c = (bytes_zeros g.row.N, refl)
 
 pub loop-i-preserved : goal.loop-i-preserved
 loop-i-preserved g c =
-    let told = c.in-ok-bytes.ensures in
+    let told = c.in_ok-bytes.ensures in
     let long = c.loop-i.invariant.0.long in
     (bytes_set c.loop-i.invariant.0 _ _ told.0, hex_more c.loop-i.bytes c.args.text.now c.loop-i.i _ (omega arith) (omega arith) c.loop-i.invariant.1 told.1 told.2)
 
-pub returns-in-err-bytes : goal.returns-in-err-bytes
-returns-in-err-bytes g c =
+pub returns-in_err-bytes : goal.returns-in_err-bytes
+returns-in_err-bytes g c =
     let outside : length c.args.text.now ≡ 2 * g.row.N → Digits c.args.text.now → ⊥ =
-    λ _. no_digits c.args.text.now (2 * c.loop-i.i) (omega arith) c.in-err-bytes.ensures in
-    rw c.from-residual.ensures outside
+    λ _. no_digits c.args.text.now (2 * c.loop-i.i) (omega arith) c.in_err-bytes.ensures in
+    rw c.from_residual.ensures outside
 
 pub returns : goal.returns
 returns g c =

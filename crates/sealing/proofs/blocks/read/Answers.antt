@@ -6,4 +6,4 @@ pub returns : goal.returns
 unfolding block
 returns c =
     let wide : 16 * c.args.i + 16 - 16 * c.args.i ≡ 16 = omega arith in
-    c.copy-from-slice.ensures.after ∙ ap (λ n. take n (drop (16 * c.args.i) c.args.bytes.now)) wide
+    c.copy_from_slice.ensures.after ∙ ap (λ n. take n (drop (16 * c.args.i) c.args.bytes.now)) wide

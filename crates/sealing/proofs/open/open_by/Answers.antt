@@ -10,35 +10,35 @@ use Rattle.sealing.proofs.Opened.{whole_blocks, opened_more, bad_padding, no_roo
 use Rattle.sealing.proofs.Padded.{good_count}
 use Rattle.sealing.proofs.open.open_by.Goals as goal
 
-pub returns-in-default : goal.returns-in-default
-returns-in-default g c =
+pub returns-in_default : goal.returns-in_default
+returns-in_default g c =
     let D = g.C.BlockCipher.dec in
     let key = g.C.BlockCipher.held c.args.cipher.now in
     let sealed = c.args.sealed.now in
     let out = c.args.out.now in
     let small : Small sealed = search rules in
-    let long : length c.plain-block-last.result ≡ 16 = search rules in
-    let lawful = sym c.is-sealed-length.ensures ∙ c.if-not-is-sealed-length.false in
-    let meaning = bad_padding D key sealed (laws _ D key c.requires).dec_sixteen small (length sealed / 16 - 2) (whole_blocks _ lawful) lawful _ long c.plain-block-last.ensures (length out) c.in-default.ensures in
+    let long : length c.plain_block-last.result ≡ 16 = search rules in
+    let lawful = sym c.is_sealed_length.ensures ∙ c.if-not-is_sealed_length.false in
+    let meaning = bad_padding D key sealed (laws _ D key c.requires).dec_sixteen small (length sealed / 16 - 2) (whole_blocks _ lawful) lawful _ long c.plain_block-last.ensures (length out) c.in_default.ensures in
     subst (λ m. Writes {E = OpenRefusal} m (Err Padding) out out) (sym meaning) (refl, refl)
 
-pub overflow-sub-rest : goal.overflow-sub-rest
-overflow-sub-rest g c = let told = c.in-Some.ensures in omega (arith, good_count _ told.0, told.1)
+pub overflow_sub-rest : goal.overflow_sub-rest
+overflow_sub-rest g c = let told = c.in-Some.ensures in omega (arith, good_count _ told.0, told.1)
 
-pub returns-in-err-room-for : goal.returns-in-err-room-for
-returns-in-err-room-for g c =
+pub returns-in_err-room_for : goal.returns-in_err-room_for
+returns-in_err-room_for g c =
     let D = g.C.BlockCipher.dec in
     let key = g.C.BlockCipher.held c.args.cipher.now in
     let sealed = c.args.sealed.now in
     let out = c.args.out.now in
     let small : Small sealed = search rules in
-    let long : length c.plain-block-last.result ≡ 16 = search rules in
-    let lawful = sym c.is-sealed-length.ensures ∙ c.if-not-is-sealed-length.false in
+    let long : length c.plain_block-last.result ≡ 16 = search rules in
+    let lawful = sym c.is_sealed_length.ensures ∙ c.if-not-is_sealed_length.false in
     let told = c.in-Some.ensures in
     let short : length out < 16 * (length sealed / 16 - 2) + (16 - c.in-Some.padding) = search rules in
-    let is : c.from-residual.result ≡ Err (Output (record {})) = search rules in
-    let meaning = no_room D key sealed (laws _ D key c.requires).dec_sixteen small (length sealed / 16 - 2) (whole_blocks _ lawful) lawful _ long c.plain-block-last.ensures c.in-Some.padding told.0 told.1 (length out) short in
-    subst (λ m. Writes {E = OpenRefusal} m c.from-residual.result out out) (sym meaning) (is, refl)
+    let is : c.from_residual.result ≡ Err (Output (record {})) = search rules in
+    let meaning = no_room D key sealed (laws _ D key c.requires).dec_sixteen small (length sealed / 16 - 2) (whole_blocks _ lawful) lawful _ long c.plain_block-last.ensures c.in-Some.padding told.0 told.1 (length out) short in
+    subst (λ m. Writes {E = OpenRefusal} m c.from_residual.result out out) (sym meaning) (is, refl)
 
 pub loop-i-preserved : goal.loop-i-preserved
 loop-i-preserved g c =
@@ -46,8 +46,8 @@ loop-i-preserved g c =
     let key = g.C.BlockCipher.held c.args.cipher.now in
     let sealed = c.args.sealed.now in
     let small : Small sealed = search rules in
-    let lawful = sym c.is-sealed-length.ensures ∙ c.if-not-is-sealed-length.false in
-    opened_more D key sealed (laws _ D key c.requires).dec_sixteen small (length sealed / 16 - 2 + 1) (omega (arith, whole_blocks (length sealed) lawful)) c.loop-i.i (omega arith) c.plain-block.result c.loop-i.out c.args.out.now c.store.new.out c.plain-block.ensures c.loop-i.invariant c.store.ensures
+    let lawful = sym c.is_sealed_length.ensures ∙ c.if-not-is_sealed_length.false in
+    opened_more D key sealed (laws _ D key c.requires).dec_sixteen small (length sealed / 16 - 2 + 1) (omega (arith, whole_blocks (length sealed) lawful)) c.loop-i.i (omega arith) c.plain_block.result c.loop-i.out c.args.out.now c.store.new.out c.plain_block.ensures c.loop-i.invariant c.store.ensures
 
 pub returns : goal.returns
 returns g c =
@@ -56,8 +56,8 @@ returns g c =
     let sealed = c.args.sealed.now in
     let before = c.args.out.now in
     let small : Small sealed = search rules in
-    let long : length c.plain-block-last.result ≡ 16 = search rules in
-    let lawful = sym c.is-sealed-length.ensures ∙ c.if-not-is-sealed-length.false in
+    let long : length c.plain_block-last.result ≡ 16 = search rules in
+    let lawful = sym c.is_sealed_length.ensures ∙ c.if-not-is_sealed_length.false in
     let told = c.in-Some.ensures in
     let room : 16 * (length sealed / 16 - 2) + (16 - c.in-Some.padding) ≤ length before = search rules in
     let whole = length sealed / 16 - 2 in
@@ -66,6 +66,6 @@ returns g c =
     let wide : 16 * whole + rest - 16 * whole ≡ rest = omega arith in
     let cut : rest - 0 ≡ rest = omega arith in
     let out = c.loop-i.invariant ∙ ap (λ m. flat_map (plain_block D key sealed) (range_with_len 1 m) ++ drop (16 * m) before) all in
-    let part = c.copy-from-slice.ensures.after ∙ ap (λ m. take m c.plain-block-last.result) cut in
-    let put = ap (λ m. take (16 * whole) c.loop-i.out ++ (c.copy-from-slice.new.self ++ drop m (drop (16 * whole) c.loop-i.out))) wide in
-    opened_all D key sealed (laws _ D key c.requires).dec_sixteen small (length sealed / 16 - 2) (whole_blocks _ lawful) lawful _ long c.plain-block-last.ensures c.in-Some.padding told.0 told.1 c.loop-i.out before _ _ room out part put
+    let part = c.copy_from_slice.ensures.after ∙ ap (λ m. take m c.plain_block-last.result) cut in
+    let put = ap (λ m. take (16 * whole) c.loop-i.out ++ (c.copy_from_slice.new.self ++ drop m (drop (16 * whole) c.loop-i.out))) wide in
+    opened_all D key sealed (laws _ D key c.requires).dec_sixteen small (length sealed / 16 - 2) (whole_blocks _ lawful) lawful _ long c.plain_block-last.ensures c.in-Some.padding told.0 told.1 c.loop-i.out before _ _ room out part put

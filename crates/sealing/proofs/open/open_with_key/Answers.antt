@@ -17,11 +17,11 @@ returns g c =
     let held = c.keyed-cipher.ensures.kept in
     let law = laws E D key c.keyed-cipher.ensures.lawful in
     let small : Small sealed = search rules in
-    let written = subst (λ k. Writes (opening D k sealed (length before)) c.open-by.result before c.open-by.new.out) held c.open-by.ensures in
-    let long : length c.open-by.new.out ≡ length before = search rules in
+    let written = subst (λ k. Writes (opening D k sealed (length before)) c.open_by.result before c.open_by.new.out) held c.open_by.ensures in
+    let long : length c.open_by.new.out ≡ length before = search rules in
     record {
       written = written;
-      within = written_within _ c.open-by.result before c.open-by.new.out long written;
-      recovered = recovers E D key law sealed small c.open-by.result before c.open-by.new.out written;
-      damaged = withstands E D key law sealed small c.open-by.result before c.open-by.new.out written;
+      within = written_within _ c.open_by.result before c.open_by.new.out long written;
+      recovered = recovers E D key law sealed small c.open_by.result before c.open_by.new.out written;
+      damaged = withstands E D key law sealed small c.open_by.result before c.open_by.new.out written;
     }

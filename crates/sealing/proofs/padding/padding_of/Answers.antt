@@ -1,6 +1,4 @@
-use Rattle.std.proofs.Common.{◌≡◌, ◌-◌, true, false, eqb, get_or, drop, sym, refl, ◌∙◌, inl, inr, ⊎_elim, eq-eqb, ne_eqb}
-use borrow.Rule.Slice.PartMut.{mid_of}
-use Rattle.octets.specs.Bytes.{every}
+use Rattle.std.proofs.Common.{true, false, eqb, get_or, sym, refl, ◌∙◌, inl, inr, ⊎_elim, eq-eqb, ne_eqb}
 use Rattle.octets.proofs.Each.{every_more, every_all}
 use Rattle.sealing.proofs.Padded.{last_is, none_or_too_many, by_bytes}
 use Rattle.sealing.proofs.padding.padding_of.Goals as goal

@@ -19,7 +19,7 @@ loop-i-preserved g c =
     let long : length c.encipher-sealed.result ≡ 16 = search rules in
     let room : 16 * (c.loop-i.i + 1) + 16 ≤ length c.loop-i.out = search rules in
     let is : c.encipher-sealed.result ≡ f (block (suc c.loop-i.i) (padded c.args.dataset.now) ⊕ c.loop-i.before) =
-    c.encipher-sealed.ensures ∙ ap f (c.xor-in-loop-i.ensures ∙ ap (λ x. x ⊕ c.loop-i.before) c.padded-block.ensures) in
+    c.encipher-sealed.ensures ∙ ap f (c.xor-in-loop-i.ensures ∙ ap (λ x. x ⊕ c.loop-i.before) c.padded_block.ensures) in
     (chain_more f _ _ _ c.loop-i.i c.loop-i.before c.loop-i.out c.encipher-sealed.result room long c.store-in-loop-i.new.out c.store-in-loop-i.ensures c.loop-i.invariant.0 is, search rules)
 
 pub returns : goal.returns

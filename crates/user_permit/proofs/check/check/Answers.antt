@@ -10,16 +10,15 @@ use Rattle.user_permit.proofs.check.check.Goals as goal
 use Rattle.user_permit.proofs.check.check.Goals.{After-ne, Else-ne}
 
 -- the computed checksum, at the text that was given
-computed : (c : After-ne) → c.to-be-bytes.result ≡ big_endian (crc32 (take 32 c.in-Ok.text))
-computed c = c.to-be-bytes.ensures ∙ ap big_endian c.crc32.ensures.value
+computed : (c : After-ne) → c.to_be_bytes.result ≡ big_endian (crc32 (take 32 c.in-Ok.text))
+computed c = c.to_be_bytes.ensures ∙ ap big_endian c.crc32.ensures.value
 
 pub returns-then-ne : goal.returns-then-ne
 returns-then-ne c =
     let same : c.in-Ok.text ≡ c.args.text.now = search rules in
     let long : length c.args.text.now ≡ 46 = search rules in
     let told = c.in-Some.ensures in
-    let n = c.if-ne.ensures in
-    let differ = not_from_Decides _ (slice_eq-Decides Decides-eqb _ _ _ n.1) (not-true _ (sym n.2)) in
+    let differ = not_from_Decides _ (slice_eq-Decides Decides-eqb _ _ _ refl) (not-true _ (sym c.if-ne.ensures)) in
     let disagree : take 8 (drop 32 c.in-Ok.text) ≡ checksum_of (take 32 c.in-Ok.text) → ⊥ =
     λ e. differ (same_read _ _ _ told.checksum.0 told.checksum.1 (computed (goal.at.returns-then-ne c).After-ne) e) in
     record {
@@ -33,14 +32,13 @@ lawful c =
     let same : c.in-Ok.text ≡ c.args.text.now = search rules in
     let long : length c.in-Ok.text ≡ 46 = search rules in
     let told = c.in-Some.ensures in
-    let n = c.if-ne.ensures in
-    let equal = (slice_eq-Decides Decides-eqb _ _ _ n.1).0 (not-false _ (sym n.2)) in
+    let equal = (slice_eq-Decides Decides-eqb _ _ _ refl).0 (not-false _ (sym c.if-ne.ensures)) in
     (long, told.inside, agrees _ _ _ told.checksum.0 told.checksum.1 (computed (goal.at.Else-ne c).After-ne) equal)
 
-pub invariant-of-result : goal.invariant-of-result
-invariant-of-result c =
+pub invariant_of-result : goal.invariant_of-result
+invariant_of-result c =
     let told = c.in-Some.ensures in
-    (lawful (goal.at.invariant-of-result c).Else-ne, (told.encrypted, (told.manufacturer, tt)))
+    record { lawful = lawful (goal.at.invariant_of-result c).Else-ne; block = told.encrypted; maker = told.manufacturer }
 
 pub returns : goal.returns
 returns c =

@@ -9,35 +9,35 @@ use Rattle.user_permit.specs.Lawful.{in_sets}
 use Rattle.user_permit.proofs.Sets.{from_parts, outside, digits_of}
 use Rattle.user_permit.proofs.check.part.Goals as goal
 
-pub returns-in-err-encrypted : goal.returns-in-err-encrypted
-returns-in-err-encrypted c =
+pub returns-in_err-encrypted : goal.returns-in_err-encrypted
+returns-in_err-encrypted c =
     let t = c.args.text.now in
     let long : length t ≡ 46 = search rules in
-    let none : in_sets t ≡ false = outside t (λ p. c.in-err-encrypted.ensures (length-take 32 t ∙ omega arith) p.encrypted) in
-    subst (Parted t) (sym c.from-residual.ensures) none
+    let none : in_sets t ≡ false = outside t (λ p. c.in_err-encrypted.ensures (length-take 32 t ∙ omega arith) p.encrypted) in
+    subst (Parted t) (sym c.from_residual.ensures) none
 
-pub returns-in-err-checksum : goal.returns-in-err-checksum
-returns-in-err-checksum c =
+pub returns-in_err-checksum : goal.returns-in_err-checksum
+returns-in_err-checksum c =
     let t = c.args.text.now in
     let long : length t ≡ 46 = search rules in
-    let none : in_sets t ≡ false = outside t (λ p. c.in-err-checksum.ensures (simp (length-take, length-drop) (omega arith)) p.checksum) in
-    subst (Parted t) (sym c.from-residual-in-err-checksum.ensures) none
+    let none : in_sets t ≡ false = outside t (λ p. c.in_err-checksum.ensures (simp (length-take, length-drop) (omega arith)) p.checksum) in
+    subst (Parted t) (sym c.from_residual-in_err-checksum.ensures) none
 
-pub returns-in-default : goal.returns-in-default
-returns-in-default c =
+pub returns-in_default : goal.returns-in_default
+returns-in_default c =
     let t = c.args.text.now in
     let long : length t ≡ 46 = search rules in
     let whole : take 6 (drop 40 t) ≡ drop 40 t = take_all 6 (drop 40 t) (simp length-drop (omega arith)) in
     let six : length (drop 40 t) ≡ 6 = simp length-drop (omega arith) in
-    outside t (λ p. both_ways _ (ap is_manufacturer_id (sym whole) ∙ c.in-default.ensures) (and_from _ _ (eq-eqb _ _ six) p.manufacturer))
+    outside t (λ p. both_ways _ (ap is_manufacturer_id (sym whole) ∙ c.in_default.ensures) (and_from _ _ (eq-eqb _ _ six) p.manufacturer))
 
 pub returns : goal.returns
 returns c =
     let t = c.args.text.now in
     let long : length t ≡ 46 = search rules in
     let whole : take 6 (drop 40 t) ≡ drop 40 t = take_all 6 (drop 40 t) (simp length-drop (omega arith)) in
-    let first = c.in-ok-encrypted.ensures in
-    let second = c.in-ok-checksum.ensures in
+    let first = c.in_ok-encrypted.ensures in
+    let second = c.in_ok-checksum.ensures in
     let third = c.in-Ok.ensures in
     record {
       inside = from_parts t (record {

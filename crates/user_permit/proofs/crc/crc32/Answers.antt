@@ -12,7 +12,7 @@ loop-byte-preserved c =
     let text = c.args.text.now in
     let i = c.loop-byte.byte-index in
     let crc = c.loop-byte.crc in
-    let looked_up = by_table crc c.from.result (omega (arith, c.type-inv.text i, c.from.ensures)) in
+    let looked_up = by_table crc c.from.result (omega (arith, c.type_inv.text i, c.from.ensures)) in
     ap (λ x. register x (drop (i + 1) text)) (looked_up ∙ ap (byte_in crc) c.from.ensures)
     ∙ sym (at_drop_more (register crc) text i 0 c.loop-byte-test.true)
     ∙ c.loop-byte.invariant

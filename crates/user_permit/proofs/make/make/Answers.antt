@@ -11,7 +11,7 @@ returns g c =
     let hardware = c.args.hardware.now.0 in
     let before = c.args.out.now in
     let room : 46 ≤ length before = search rules in
-    let read = c.in-ok-id.ensures in
+    let read = c.in_ok-id.ensures in
     let told = c.encipher-encrypted.ensures in
     let is = c.compose.ensures in
     record {

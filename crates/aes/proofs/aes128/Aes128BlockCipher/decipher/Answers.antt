@@ -13,10 +13,10 @@ loop-n-preserved c =
     let n = c.loop-n.n in
     let here : n - 1 ≡ suc (n - 1 - 1) = omega (arith, c.loop-n-test.true) in
     ap (inv_rounds w (n - 1 - 1))
-    (c.inv-mix-columns-s.ensures
+    (c.inv_mix_columns-s.ensures
     ∙ ap inv_mix_columns
-    (c.add-round-key.ensures
-    ∙ ap₂ add_round_key (c.inv-sub-bytes.ensures ∙ ap inv_sub_bytes c.inv-shift-rows.ensures) (c.round-key-in-loop-n.ensures ∙ ap (round_key w) here)))
+    (c.add_round_key.ensures
+    ∙ ap₂ add_round_key (c.inv_sub_bytes.ensures ∙ ap inv_sub_bytes c.inv_shift_rows.ensures) (c.round_key-in-loop-n.ensures ∙ ap (round_key w) here)))
     ∙ ap (λ m. inv_rounds w m c.loop-n.s) (sym here)
     ∙ c.loop-n.invariant
 
@@ -25,10 +25,10 @@ unfolding inv_rounds inv_cipher dec_block
 returns c =
     let self = c.args.self.now in
     let end : 0 ≡ c.loop-n.n - 1 = omega (arith, c.loop-n-test.false) in
-    let start = c.add-round-key-s.ensures ∙ ap₂ add_round_key c.from-block.ensures c.round-key.ensures in
+    let start = c.add_round_key-s.ensures ∙ ap₂ add_round_key c.from_block.ensures c.round_key.ensures in
     let done = ap (λ m. inv_rounds self.words m c.loop-n.s) end ∙ c.loop-n.invariant ∙ ap (inv_rounds self.words 9) start in
-    c.to-block.ensures
+    c.to_block.ensures
     ∙ ap block
-    (c.add-round-key-2.ensures
-    ∙ ap₂ add_round_key (c.inv-sub-bytes-2.ensures ∙ ap inv_sub_bytes (c.inv-shift-rows-2.ensures ∙ ap inv_shift_rows done)) c.round-key-2.ensures)
+    (c.add_round_key-2.ensures
+    ∙ ap₂ add_round_key (c.inv_sub_bytes-2.ensures ∙ ap inv_sub_bytes (c.inv_shift_rows-2.ensures ∙ ap inv_shift_rows done)) c.round_key-2.ensures)
     ∙ ap (λ w. inv_cipher 10 w c.args.block) self.expanded

@@ -11,10 +11,10 @@ use Rattle.check_aes.proofs.hex_text.HexText.of.Goals as goal
 whole : (r : Result ℕ TooShort) (bytes out : List ℕ) → Bytes 16 bytes → Writes (fitted (hex bytes) 32) r (replicate 32 0) out → out ≡ hex bytes
 whole r bytes out block = fills r (hex bytes) (replicate 32 0) out (length-hex bytes ∙ ap (λ n. 2 * n) block.long)
 
-pub invariant-of-result : goal.invariant-of-result
-invariant-of-result c =
+pub invariant_of-result : goal.invariant_of-result
+invariant_of-result c =
     let block : Bytes 16 c.args.block.now = search rules in
-    (subst Digits (sym (whole _ _ _ block c.encode.ensures)) (hex_is_digits _ block.small), tt)
+    record { hexadecimal = subst Digits (sym (whole _ _ _ block c.encode.ensures)) (hex_is_digits _ block.small) }
 
 pub returns : goal.returns
 returns c =
