@@ -11,7 +11,7 @@
 
 ROOT := $(patsubst %/,%,$(dir $(abspath $(lastword $(MAKEFILE_LIST)))))
 OUT := $(ROOT)/target/c
-PROVED := $(ROOT)/target/staticlib/libsealing_c.a
+PROVED := $(ROOT)/crates/sealing_c/out/libsealing_c.a
 ARCHIVE ?= $(PROVED)
 EXTRA_LIBS ?=
 CFLAGS ?= -O2
@@ -31,7 +31,7 @@ build: $(ARCHIVE)
 # Proves the library first, which takes its time; so only where the archive is absent. After a
 # change of the crates run the command by hand.
 $(PROVED):
-	cd $(ROOT) && rt staticlib sealing_c
+	cd $(ROOT)/crates/sealing_c && rt lib
 
 clean:
 	rm -f $(OUT)/$(PROGRAM)

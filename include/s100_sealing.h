@@ -1,8 +1,8 @@
 /*
  * Sealing and opening datasets of IHO S-100 Part 15 under a known dataset key, over AES-128.
  *
- * Build the library with `rt staticlib sealing_c` in the root of the repository and link
- * target/staticlib/libsealing_c.a.
+ * Build the library with `rt lib` in the folder crates/sealing_c of the repository and link
+ * crates/sealing_c/out/libsealing_c.a.
  *
  * What is sealed. A dataset has 0 to S100_DATASET_MAX bytes. It is padded as in PKCS#7, by 1 to 16
  * bytes that each hold their own number, and a leading block R is put before it. The whole is
