@@ -6,12 +6,12 @@ usage: python3 tools/respell.py        at the top of the checkout
 Words are in snake case, types and modules in camel case. A dash stands in a lemma's name only between two words that it
 is about; elsewhere words are joined by an underscore. Functions of src/, exported names, strings, inputs and outputs keep
 their names. The crate `bytes` is `octets`, since the kit has a library of that name. It stops, before it writes anything,
-where two names would fall together.
+where two names with a dash would fall together; a definition in camel case that meets a lemma's name is parted by hand
+after it (`is_digit` was the one). It has run: the repository has this spelling, and the script stays to show how it came to.
 """
 
 import os
 import re
-import subprocess
 import sys
 
 # Words of definitions, here and in the library, between which a dash stands.
