@@ -6,8 +6,8 @@ usage: python3 tools/respell.py        at the top of the checkout
 Words are in snake case, types and modules in camel case. A dash stands in a lemma's name only between two words that it
 is about; elsewhere words are joined by an underscore. Functions of src/, exported names, strings, inputs and outputs keep
 their names. The crate `bytes` is `octets`, since the kit has a library of that name. It stops, before it writes anything,
-where two names with a dash would fall together; a definition in camel case that meets a lemma's name is parted by hand
-after it (`is_digit` was the one). It has run: the repository has this spelling, and the script stays to show how it came to.
+where two names with a dash would fall together; a definition in camel case that meets a lemma's name stands in MET. It has
+run: the repository has this spelling, and the script stays to show how it came to it.
 """
 
 import os
@@ -49,8 +49,8 @@ FIPS = {
 
 # Names that the general rule would spell badly.
 OWN = {
-    "E-block": "enc_block-sixteen",
-    "D-block": "dec_block-sixteen",
+    "E-block": "enc_block_sixteen",
+    "D-block": "dec_block_sixteen",
     "E-byte": "enc_byte",
     "D-byte": "dec_byte",
     "before-T": "before_damage",
@@ -73,7 +73,15 @@ OWN = {
     "length-permit": "length-permit_text",
     "length-checksum": "length-checksum_of",
     "Four-bytes": "IsFourBytes",
+    "checksum-digits": "checksum_digits",
+    "shifted-xor": "shifted_xor",
+    "shifts-xor": "shifts_xor",
+    "small-⊕": "Small-⊕",
+    "bytes-⊕": "Bytes-⊕",
 }
+
+# A lemma that the kit's script leaves with a name which a definition takes here.
+MET = {("crates/bytes/proofs/Digits.antt", "is_digit"): "is_digit-digit"}
 
 TOKEN = re.compile(r"[^\s(){}\[\]⟨⟩;,.:\"|&<>=+*/!?#@]+")
 CAMEL = re.compile(r"(?<![A-Za-z0-9_])[a-z][a-z0-9]*[A-Z][A-Za-z0-9]*(?![A-Za-z0-9_])")
@@ -133,6 +141,8 @@ def respelled(text, path, names):
 
     def token(m):
         word = m.group(0)
+        if (path, word) in MET:
+            return MET[path, word]
         after_dot = m.start() > 0 and m.string[m.start() - 1] == "."
         if word in names and (not after_dot or word in ("enc-sixteen", "dec-sixteen")):
             return names[word]
