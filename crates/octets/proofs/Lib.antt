@@ -1,4 +1,6 @@
 pub mod Blocks
+pub mod Calls
+pub mod Chunks
 pub mod Digits
 pub mod Each
 pub mod Fits

@@ -1,6 +1,8 @@
 // Blocks of sixteen bytes, and exclusive or at every width.
-ghost use Rattle.std.specs.Prelude.{◌≡◌};
+ghost use Rattle.std.specs.Prelude.{◌≡◌, ◌<◌, bit_xor, slice_index};
 ghost use Rattle.octets.specs.Bytes.{◌⊕◌};
+
+use std::array;
 
 pub type Block = [u8; 16];
 
@@ -8,9 +10,10 @@ pub type Block = [u8; 16];
 pub fn xor<const N: usize>(a: [u8; N], b: [u8; N]) -> [u8; N]
     ensures { result ≡ a.entry ⊕ b.entry }
 {
-    let mut c = [0; N];
-    for i in 0..N {
-        c[i] = a[i] ^ b[i];
-    }
-    c
+    array::from_fn(
+        |i: usize| -> u8
+            requires { i < N }
+            ensures { result ≡ bit_xor (slice_index a i) (slice_index b i) }
+        { a[i] ^ b[i] },
+    )
 }

@@ -44,10 +44,8 @@ pub fn encode(bytes: &[u8], out: &mut [u8]) -> Result<usize, TooShort>
     if out.len() / 2 < bytes.len() {
         return Err(TooShort);
     }
-    for i in 0..bytes.len() {
-        let [high, low] = digits(bytes[i]);
-        out[2 * i] = high;
-        out[2 * i + 1] = low;
+    for (i, byte) in bytes.iter().enumerate() {
+        out[2 * i..2 * i + 2].copy_from_slice(&digits(*byte));
     }
     Ok(2 * bytes.len())
 }
@@ -56,12 +54,15 @@ pub fn encode(bytes: &[u8], out: &mut [u8]) -> Result<usize, TooShort>
 pub fn decode<const N: usize>(text: &[u8]) -> Option<[u8; N]>
     ensures { Decoded N text.now result }
 {
-    if text.len() % 2 != 0 || text.len() / 2 != N {
+    let (pairs, []) = text.as_chunks::<2>() else {
+        return None;
+    };
+    if pairs.len() != N {
         return None;
     }
     let mut bytes = [0; N];
-    for i in 0..N {
-        bytes[i] = pair(text[2 * i], text[2 * i + 1])?;
+    for (i, [high, low]) in pairs.iter().enumerate() {
+        bytes[i] = pair(*high, *low)?;
     }
     Some(bytes)
 }
