@@ -41,6 +41,6 @@ module _ (k b : List ℕ) (hk : Bytes 16 k) (hb : Bytes 16 b) where
       let key : slice_index_or k ((m + 15) % 16) 0 ≡ slice_index_or k i 0 = ap (λ j. slice_index k j) back in
       omega (arith, d, at, key, hb.small i, hk.small i))
 
--- where a loop has filled all sixteen places
+-- sixteen places, each filled by the rule
 pub filled : (f : ℕ → ℕ) (out : List ℕ) (i : ℕ) → 16 ≤ i → length out ≡ 16 → ((j : ℕ) → j < i → slice_index out j ≡ f j) → out ≡ map f (range_with_len 0 16)
 filled f out i end long at = fill_by_all f out 16 0 long (λ j h. at j (omega arith))

@@ -6,6 +6,7 @@ ghost use Rattle.std.proofs.Common.{rules};
 
 use crate::block_cipher::BlockCipher;
 use octets::block::Block;
+use std::array;
 
 #[derive(Drop)]
 pub struct Demonstration {
@@ -43,19 +44,13 @@ impl BlockCipher for Demonstration {
         ensures value { result ≡ enc_block self.now.key block }
         ensures examples { Examples }
     {
-        let mut out = [0; 16];
-        for i in 0..16 {
-            out[i] = block[(i + 1) % 16].wrapping_add(self.key[i]);
-        }
-        out
+        array::from_fn(|i| block[(i + 1) % 16].wrapping_add(self.key[i]))
     }
 
     fn decipher(&self, block: Block) -> Block {
-        let mut out = [0; 16];
-        for i in 0..16 {
+        array::from_fn(|i| {
             let from = (i + 15) % 16;
-            out[i] = block[from].wrapping_sub(self.key[from]);
-        }
-        out
+            block[from].wrapping_sub(self.key[from])
+        })
     }
 }

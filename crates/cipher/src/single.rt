@@ -1,4 +1,5 @@
-// One block under one key, as user permits and encrypted keys have it.
+// One block under one key, as user permits and encrypted keys have it. The two directions stay two functions of a line
+// each: a type that says the direction would be longer than both.
 ghost use Rattle.std.specs.Prelude.{◌≡◌};
 ghost use Rattle.octets.specs.Bytes.{Bytes};
 
