@@ -12,10 +12,5 @@ pub trait Charset {
 pub fn keeps_to<S: Charset>(text: &[u8]) -> bool
     ensures { result ≡ every S.member text.now }
 {
-    for c in text {
-        if !S::contains(*c) {
-            return false;
-        }
-    }
-    true
+    text.iter().all(|c| S::contains(*c))
 }

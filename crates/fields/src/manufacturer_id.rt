@@ -26,13 +26,10 @@ impl ManufacturerId {
     pub fn read(text: &[u8]) -> Result<ManufacturerId, FieldFault>
         ensures { Reads is_manufacturer_id (λ id. id.text) text.now result }
     {
-        let Ok(characters) = <[u8; 6]>::try_from(text) else {
-            return Err(FieldFault);
-        };
-        if !keeps_to::<IdCharacters>(text) {
-            return Err(FieldFault);
+        match <[u8; 6]>::try_from(text) {
+            Ok(text) if keeps_to::<IdCharacters>(&text) => Ok(ManufacturerId { text }),
+            _ => Err(FieldFault),
         }
-        Ok(ManufacturerId { text: characters })
     }
 
     pub fn text(&self) -> &[u8; 6]

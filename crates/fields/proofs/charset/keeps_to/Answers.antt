@@ -1,14 +1,12 @@
-use Rattle.std.proofs.Common.{sym, ◌∙◌}
-use Rattle.octets.proofs.Each.{every_more, every_all}
+use Rattle.std.proofs.Common.{rules, ◌∙◌}
+use borrow.Author.Tests.{tests}
+use Rattle.std.proofs.lemmas.Iterator.{YieldsList-from_slice}
+use Rattle.std.proofs.lemmas.Iterator.Search.{all_from_yields_List}
+use Rattle.octets.proofs.Each.{list-all_is_every}
 use Rattle.fields.proofs.charset.keeps_to.Goals as goal
 
-pub returns-then-not-contains : goal.returns-then-not-contains
-returns-then-not-contains g c =
-    every_more g.S.Charset.member _ _ _ c.loop-c-test.true c.if-not-contains.ensures ∙ c.loop-c.invariant
-
-pub loop-c-preserved : goal.loop-c-preserved
-loop-c-preserved g c =
-    every_more g.S.Charset.member _ _ _ c.loop-c-test.true c.if-not-contains.ensures ∙ c.loop-c.invariant
-
 pub returns : goal.returns
-returns g c = sym (every_all g.S.Charset.member _ _ c.loop-c-test.false) ∙ c.loop-c.invariant
+returns g c =
+    let member = g.S.Charset.member in
+    let text = c.args.text.now in
+    all_from_yields_List member _ _ c.all.result c.all.ensures.ran (YieldsList-from_slice text (search rules)) (λ x b q k. search (rules, tests)) ∙ list-all_is_every member text
