@@ -2,7 +2,9 @@
 use Rattle.std.proofs.Common.{◌≡◌, ℕ, suc, ◌+◌, ◌*◌, ◌/◌, ◌%◌, ◌<◌, ◌≤◌, List, [], ◌∷◌, ◌++◌, length, get_or, take, drop, sym, ap, ◌∙◌, ⊎_elim, append_assoc, arith, length-append, length-drop, take-append-drop, length-take}
 use Rattle.std.proofs.lemmas.List.{ext_get_or, get_or-take, get_or-drop, get_or_past, length-take-le, take_all, take_at, drop_at, take-append-le, drop-append-le, drop-drop}
 use Rattle.std.proofs.lemmas.Bool.{cases_lt}
+use Rattle.std.specs.Simd.{first_chunks}
 use Rattle.octets.specs.Bytes.{Bytes, Small}
+use Rattle.octets.proofs.Chunks.{chunk_at}
 use Rattle.sealing.specs.Blocks.{block}
 
 pub small_take : (n : ℕ) (xs : List ℕ) → Small xs → Small (take n xs)
@@ -37,6 +39,11 @@ module _ (i : ℕ) (xs : List ℕ) where
   pub block_at : (b ys : List ℕ) → length xs ≡ 16 * i → length b ≡ 16 → block (suc i) (xs ++ (b ++ ys)) ≡ b
   unfolding block
   block_at b ys hx hb = ap (take 16) (drop_at xs (b ++ ys) (16 * i) hx) ∙ take_at b ys 16 hb
+
+-- and as a slice's pieces
+pub chunk_is : (xs : List ℕ) (pieces : List (List ℕ)) (i : ℕ) → pieces ≡ first_chunks 16 (length xs / 16) xs → i < length xs / 16 → get_or pieces i [] ≡ block (suc i) xs
+unfolding block
+chunk_is xs pieces i so lt = ap (λ l. get_or l i []) so ∙ chunk_at 16 (length xs / 16) xs i lt
 
 pub take-append_add : (xs ys : List ℕ) (n : ℕ) → take (length xs + n) (xs ++ ys) ≡ xs ++ take n ys
 take-append_add [] ys n = ap (λ m. take m ys) (omega arith)

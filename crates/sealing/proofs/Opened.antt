@@ -1,9 +1,10 @@
 -- The plain blocks of an opening, put together. Assumes nothing.
-use Rattle.std.proofs.Common.{◌≡◌, ℕ, zero, suc, ◌+◌, ◌-◌, ◌*◌, ◌/◌, ◌%◌, ◌<◌, ◌≤◌, true, false, ◌&&◌, eqb, leb, List, [], ◌++◌, length, take, drop, Ok, Err, sym, refl, ap, ◌∙◌, subst, ap₂, append_assoc, append-nil, add-one, arith, length-append}
+use Rattle.std.proofs.Common.{◌≡◌, ℕ, zero, suc, ◌+◌, ◌-◌, ◌*◌, ◌/◌, ◌%◌, ◌<◌, ◌≤◌, true, false, ◌&&◌, eqb, leb, List, [], ◌++◌, length, get_or, take, drop, Ok, Err, sym, refl, ap, ◌∙◌, subst, ap₂, append_assoc, append-nil, add-one, arith, length-append}
 use Rattle.std.proofs.lemmas.List.{take_at, drop_at, drop-drop, length-take-le}
 use Rattle.std.proofs.lemmas.Slice.{drop-append-drop}
 use Rattle.std.proofs.lemmas.Bool.{cond-true, cond-false, and_parts, leb-true, eqb-true, le-leb, lt-leb}
 use Rattle.std.specs.List.{range_with_len, flat_map}
+use Rattle.std.specs.Simd.{first_chunks}
 use Rattle.octets.specs.Bytes.{Bytes, Small, ◌⊕◌}
 use Rattle.octets.specs.Output.{Writes}
 use Rattle.octets.proofs.Xor.{Bytes-⊕}
@@ -12,7 +13,7 @@ use Rattle.sealing.specs.Open.{is_sealed_length, plain_block, plain, opening, de
 use Rattle.sealing.specs.Padding.{last_byte, is_padded, unpadded}
 use Rattle.sealing.specs.declared.open.OpenRefusal.{OpenRefusal}
 use Rattle.sealing.specs.declared.open.OpenRefusal.TheVariants.{Padding, Output}
-use Rattle.sealing.proofs.Cutting.{bytes_block, block_at, block_past, take-append_add}
+use Rattle.sealing.proofs.Cutting.{chunk_is, bytes_block, block_at, block_past, take-append_add}
 use Rattle.sealing.proofs.Padded.{last_of_block, good_by_block, good_count}
 
 -- blocks by their number, from a on
@@ -59,6 +60,14 @@ plain-block_is D key sealed j =
     let here : 1 + j ≡ suc j = omega arith in
     let next : 1 + j + 1 ≡ suc (suc j) = omega arith in
     ap₂ (λ a b. D key (block a sealed) ⊕ block b sealed) next here
+
+-- and of a slice's pieces
+pub plain-block_of_chunks : (D : List ℕ → List ℕ → List ℕ) (key sealed : List ℕ) (pieces : List (List ℕ)) (i : ℕ) → pieces ≡ first_chunks 16 (length sealed / 16) sealed → i + 1 < length sealed / 16
+    → D key (get_or pieces (i + 1) []) ⊕ get_or pieces i [] ≡ plain_block D key sealed (i + 1)
+plain-block_of_chunks D key sealed pieces i so lt =
+    let next : suc (i + 1) ≡ i + 1 + 1 = omega arith in
+    let here : suc i ≡ i + 1 = omega arith in
+    ap₂ (λ a b. D key a ⊕ b) (chunk_is sealed pieces (i + 1) so lt ∙ ap (λ m. block m sealed) next) (chunk_is sealed pieces i so (omega arith) ∙ ap (λ m. block m sealed) here)
 
 module _ (D : List ℕ → List ℕ → List ℕ) (key sealed : List ℕ) (sixteen : (b : List ℕ) → Bytes 16 b → Bytes 16 (D key b)) (small : Small sealed) where
   pub bytes_plain-block : (j : ℕ) → 16 * j + 32 ≤ length sealed → Bytes 16 (plain_block D key sealed (1 + j))

@@ -4,9 +4,10 @@ use borrow.Rule.Slice.PartMut.{mid_of}
 use lib.ListN.{length-replicate}
 use Rattle.std.proofs.lemmas.List.{get_or_append_left, get_or-append_right, get_or_past, get_or-replicate, take_at, take_all, drop_at, drop-drop, drop-append-le}
 use Rattle.std.proofs.lemmas.Bool.{and_from, and_left, and_right, and_parts, leb-true, le-leb, lt-leb, eq-eqb, cases_lt}
+use Rattle.std.specs.Bool.{then_some}
 use Rattle.octets.specs.Bytes.{Small, every}
 use Rattle.sealing.specs.Blocks.{block}
-use Rattle.sealing.specs.Padding.{pads, padded, last_byte, is_padded, unpadded}
+use Rattle.sealing.specs.Padding.{pads, padded, last_byte, is_padded, unpadded, Ended}
 use Rattle.sealing.proofs.Cutting.{block-append}
 
 every-replicate : (n k : ℕ) → every (eqb k) (replicate n k) ≡ true
@@ -141,3 +142,8 @@ module _ (b : List ℕ) (long : length b ≡ 16) where
       ap (λ n. drop (n - count) b) long ∙ sym (take_all (16 - (16 - count)) (drop (16 - count) b) (omega (arith, length-drop (16 - count) b))) in
       tested ∙ ap₂ (λ x y. x && y && every (eqb count) (drop (length b - count) b)) (le-leb 1 count low) (le-leb count 16 high)
       ∙ ap (every (eqb count)) end
+
+-- what was found of a last block, as an answer
+pub ended : (b : List ℕ) (good : Bool) (n : ℕ) → is_padded b ≡ good → n ≡ last_byte b → Ended b (then_some good n)
+ended b true n is e = (is, e)
+ended b false n is e = is

@@ -1,17 +1,7 @@
-// Blocks of a run of bytes, by their place, from 0.
-ghost use Rattle.std.specs.Prelude.{◌≡◌, suc, ◌+◌, ◌*◌, ◌≤◌, ◌++◌, length, take, drop};
-ghost use Rattle.sealing.specs.Blocks.{block as block_of};
+// A block put into its place in a run of bytes, counted from 0.
+ghost use Rattle.std.specs.Prelude.{◌≡◌, ◌+◌, ◌*◌, ◌≤◌, ◌++◌, length, take, drop};
 
 use octets::block::Block;
-
-pub(crate) fn read(bytes: &[u8], i: usize) -> Block
-    requires { 16 * i + 16 ≤ length bytes.now }
-    ensures { result ≡ block_of (suc i) bytes.now }
-{
-    let mut block = [0; 16];
-    block.copy_from_slice(&bytes[16 * i..16 * i + 16]);
-    block
-}
 
 pub(crate) fn store(out: &mut [u8], i: usize, block: &Block)
     requires { 16 * i + 16 ≤ length out.old }

@@ -1,9 +1,10 @@
 // Opening a sealed dataset under a known key.
-ghost use Rattle.std.specs.Prelude.{◌≡◌, ◌+◌, ◌*◌, ◌≤◌, length, IfOk, Some};
+ghost use Rattle.std.specs.Prelude.{◌≡◌, ◌≤◌, length, IfOk, Some};
+ghost use Rattle.octets.specs.Bytes.{◌⊕◌};
 ghost use Rattle.octets.specs.Output.{Writes};
 ghost use Rattle.cipher.specs.Keyed.{Keyed};
 ghost use Rattle.sealing.specs.Damage.{Withstands};
-ghost use Rattle.sealing.specs.Open.{is_sealed_length, plain_block, opening, Recovers, open_number, open_words};
+ghost use Rattle.sealing.specs.Open.{is_sealed_length, opening, Recovers, open_number, open_words};
 ghost use Rattle.sealing.specs.declared.open.OpenRefusal.TheVariants.{Output};
 
 use crate::blocks;
@@ -66,18 +67,14 @@ impl From<TooShort> for OpenRefusal {
 fn is_sealed_length(count: usize) -> bool
     ensures { result ≡ is_sealed_length count }
 {
-    count >= 32 && count <= SEALED_LIMIT && count % 16 == 0
+    (32..=SEALED_LIMIT).contains(&count) && count % 16 == 0
 }
 
-// A block of the padded dataset, by its place from 0.
-fn plain_block<C: BlockCipher>(cipher: &C, sealed: &[u8], i: usize) -> Block
-    requires { 16 * i + 32 ≤ length sealed.now }
-    ensures { result ≡ plain_block C.dec (C.held cipher.now) sealed.now (i + 1) }
+// The plain block of a sealed one, which was chained to the sealed one before it.
+fn plain_block<C: BlockCipher>(cipher: &C, before: &Block, sealed: &Block) -> Block
+    ensures { result ≡ C.dec (C.held cipher.now) sealed.now ⊕ before.now }
 {
-    xor(
-        cipher.decipher(blocks::read(sealed, i + 1)),
-        blocks::read(sealed, i),
-    )
+    xor(cipher.decipher(*sealed), *before)
 }
 
 // Writes the dataset. Its length is known from the last block alone, so nothing is stored before it is sure to fit.
@@ -88,15 +85,15 @@ fn open_by<C: BlockCipher>(cipher: &C, sealed: &[u8], out: &mut [u8]) -> Result<
     if !is_sealed_length(sealed.len()) {
         return Err(OpenRefusal::Length);
     }
-    let whole = sealed.len() / 16 - 2;
-    let last = plain_block(cipher, sealed, whole);
-    let Some(padding) = padding_of(&last) else {
-        return Err(OpenRefusal::Padding);
-    };
+    let (blocks, _) = sealed.as_chunks::<16>();
+    let whole = blocks.len() - 2;
+    let last = plain_block(cipher, &blocks[whole], &blocks[whole + 1]);
+    let padding = padding_of(&last).ok_or(OpenRefusal::Padding)?;
     let rest = 16 - padding;
     room_for(16 * whole + rest, out)?;
-    for i in 0..whole {
-        blocks::store(out, i, &plain_block(cipher, sealed, i));
+    for (i, block) in blocks[1..=whole].iter().enumerate() {
+        let plain = plain_block(cipher, &blocks[i], block);
+        blocks::store(out, i, &plain);
     }
     out[16 * whole..16 * whole + rest].copy_from_slice(&last[0..rest]);
     Ok(16 * whole + rest)

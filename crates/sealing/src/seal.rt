@@ -5,8 +5,8 @@ ghost use Rattle.sealing.specs.Seal.{Sealed, Distinct, Examples, limit, sealed_l
 ghost use Rattle.sealing.specs.declared.seal.SealRefusal.TheVariants.{Output};
 
 use crate::blocks;
-use crate::padding::padded_block;
-use crate::values::{DatasetKey, LeadingBlock, StartingVector};
+use crate::padding::pad;
+use crate::values::{Beginning, DatasetKey};
 use cipher::block_cipher::BlockCipher;
 use cipher::keyed::keyed;
 use octets::block::xor;
@@ -68,27 +68,27 @@ pub fn sealed_length(count: usize) -> Option<usize>
 // Writes the dataset sealed: a leading block and the padded dataset, each block chained to the sealed one before.
 pub fn seal<C: BlockCipher + Drop>(
     key: &DatasetKey,
-    lead: &LeadingBlock,
-    start: &StartingVector,
+    beginning: &Beginning,
     dataset: &[u8],
     out: &mut [u8],
 ) -> Result<usize, SealRefusal>
-    ensures written { WritesSuch (seal_refused (length dataset.now) (length out.old)) (Sealed C.enc key.now.0 lead.now.0 start.now.0 dataset.now) result out.old out.new }
+    ensures written { WritesSuch (seal_refused (length dataset.now) (length out.old)) (Sealed C.enc key.now.0 beginning.now.lead.0 beginning.now.start.0 dataset.now) result out.old out.new }
     ensures count { IfOk result (λ n. n ≡ sealed_length (length dataset.now)) }
     ensures distinct { IfOk result (λ n. Distinct C.enc key.now.0 dataset.now (take n out.new)) }
     ensures examples { Examples }
 {
-    let Some(count) = sealed_length(dataset.len()) else {
-        return Err(SealRefusal::TooLong);
-    };
+    let count = sealed_length(dataset.len()).ok_or(SealRefusal::TooLong)?;
     room_for(count, out)?;
     let cipher = keyed::<C>(&key.0);
-    let mut before = cipher.encipher(xor(lead.0, start.0));
+    let mut before = cipher.encipher(xor(beginning.lead.0, beginning.start.0));
     blocks::store(out, 0, &before);
-    for i in 0..dataset.len() / 16 + 1 {
-        let sealed = cipher.encipher(xor(padded_block(dataset, i), before));
+    let (whole, rest) = dataset.as_chunks::<16>();
+    for (i, block) in whole.iter().enumerate() {
+        let sealed = cipher.encipher(xor(*block, before));
         blocks::store(out, i + 1, &sealed);
         before = sealed;
     }
+    let last = cipher.encipher(xor(pad(rest), before));
+    blocks::store(out, whole.len() + 1, &last);
     Ok(count)
 }

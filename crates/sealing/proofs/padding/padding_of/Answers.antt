@@ -1,29 +1,25 @@
-use Rattle.std.proofs.Common.{true, false, eqb, get_or, sym, refl, ◌∙◌, inl, inr, ⊎_elim, eq-eqb, ne_eqb}
-use Rattle.octets.proofs.Each.{every_more, every_all}
-use Rattle.sealing.proofs.Padded.{last_is, none_or_too_many, by_bytes}
+use Rattle.std.proofs.Common.{◌≡◌, ◌-◌, rules, arith, eqb, get_or, sym, ap, subst, ◌∙◌, inl, inr, ⊎_elim}
+use borrow.Rule.Slice.PartMut.{mid_of}
+use borrow.Author.Tests.{tests}
+use Rattle.std.proofs.lemmas.Iterator.{YieldsList-from_slice}
+use Rattle.std.proofs.lemmas.Iterator.Search.{all_from_yields_List}
+use Rattle.octets.specs.Bytes.{every}
+use Rattle.octets.proofs.Each.{list-all_is_every}
+use Rattle.sealing.specs.Padding.{Ended}
+use Rattle.sealing.proofs.Padded.{last_is, none_or_too_many, by_bytes, ended}
 use Rattle.sealing.proofs.padding.padding_of.Goals as goal
 
 pub returns-then-count-lt1 : goal.returns-then-count-lt1
 returns-then-count-lt1 c =
-    none_or_too_many c.args.last.now c.told-last (⊎_elim inl (λ p. inr p.1) c.then-count-lt1.either)
-
-pub loop-b-init : goal.loop-b-init
-loop-b-init c = refl
-
-pub returns-then-b-last : goal.returns-then-b-last
-returns-then-b-last c =
-    let b = c.args.last.now in
-    let n = get_or b 15 0 in
-    by_bytes b c.told-last c.if-count-lt1.false c.if-count-gt16.false ∙ sym c.loop-b.invariant
-    ∙ sym (every_more (eqb n) _ c.loop-b.b-index false c.loop-b-test.true (sym (ne_eqb _ _ (λ e. c.if-b-last.true (sym e)))))
-
-pub loop-b-preserved : goal.loop-b-preserved
-loop-b-preserved c =
-    let n = get_or c.args.last.now 15 0 in
-    every_more (eqb n) _ c.loop-b.b-index true c.loop-b-test.true (sym (eq-eqb _ _ (sym c.if-b-last.false))) ∙ c.loop-b.invariant
+    none_or_too_many c.args.last.now c.told-last (⊎_elim (λ h. inl (omega (arith, c.from-count.ensures))) (λ p. inr (omega (arith, c.from-count.ensures, p.1))) c.then-count-lt1.either)
 
 pub returns : goal.returns
 returns c =
     let b = c.args.last.now in
     let n = get_or b 15 0 in
-    (by_bytes b c.told-last c.if-count-lt1.false c.if-count-gt16.false ∙ sym c.loop-b.invariant ∙ every_all (eqb n) _ c.loop-b.b-index c.loop-b-test.false, last_is b c.told-last)
+    let e : c.from-count.result ≡ n = omega (arith, c.from-count.ensures) in
+    let part = mid_of (16 - c.from-count.result) (16 - (16 - c.from-count.result)) b in
+    let all : c.all.result ≡ every (eqb n) part =
+    all_from_yields_List (eqb n) _ _ c.all.result c.all.ensures.ran (YieldsList-from_slice part (search rules)) (λ x t q k. search (rules, tests)) ∙ list-all_is_every (eqb n) part in
+    let good = by_bytes b c.told-last (omega (arith, e)) (omega (arith, e)) ∙ ap (λ m. every (eqb n) (mid_of (16 - m) (16 - (16 - m)) b)) (sym e) ∙ sym all in
+    subst (Ended b) (sym c.then_some.ensures) (ended b c.all.result c.from-count.result good (e ∙ last_is b c.told-last))
