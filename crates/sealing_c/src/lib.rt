@@ -1,4 +1,5 @@
-// The two calls for C, over AES-128. include/s100_sealing.h declares them.
+// The two calls for C, over AES-128. include/s100_sealing.h declares them. C hands over each block as two numbers, and is
+// answered one number: the bytes written or, below zero, the number of a refusal.
 #![tactic(auto)]
 
 ghost use Rattle.std.specs.Prelude.{◌≡◌, ◌^◌, ◌<◌, IfOk};
@@ -10,15 +11,12 @@ use octets::block::Block;
 use octets::refusal::Refusal;
 use sealing::open::open_with_key;
 use sealing::seal::seal;
-use sealing::values::{DatasetKey, LeadingBlock, StartingVector};
+use sealing::values::{Beginning, DatasetKey, LeadingBlock, StartingVector};
 
 fn block(high: u64, low: u64) -> Block
     ensures { result ≡ sixteen_bytes high low }
 {
-    let mut block = [0; 16];
-    block[0..8].copy_from_slice(&high.to_be_bytes());
-    block[8..16].copy_from_slice(&low.to_be_bytes());
-    block
+    ((u128::from(high) << 64) + u128::from(low)).to_be_bytes()
 }
 
 fn answer<R: Refusal + Drop>(outcome: Result<usize, R>) -> i64
@@ -45,9 +43,11 @@ pub extern "C" fn s100_seal(
     ensures { SealsForC enc_block (sixteen_bytes key_hi key_lo) (sixteen_bytes lead_hi lead_lo) (sixteen_bytes start_hi start_lo) dataset.now result out.old out.new }
 {
     let key = DatasetKey(block(key_hi, key_lo));
-    let lead = LeadingBlock(block(lead_hi, lead_lo));
-    let start = StartingVector(block(start_hi, start_lo));
-    answer(seal::<Aes128>(&key, &lead, &start, dataset, out))
+    let beginning = Beginning {
+        lead: LeadingBlock(block(lead_hi, lead_lo)),
+        start: StartingVector(block(start_hi, start_lo)),
+    };
+    answer(seal::<Aes128>(&key, &beginning, dataset, out))
 }
 
 #[unsafe(no_mangle)]
