@@ -11,7 +11,8 @@ word words i = slice_index_or words i []
 abbrev pub Parses : List (List ℕ) → Option Command → Type 0
 Parses words (Some Story) = length words ≡ 1
 Parses words (Some Help) = (length words ≡ 2) × (word words 1 ≡ codes "help")
-Parses words (Some (Make id key hardware)) =
-    (length words ≡ 5) × (word words 1 ≡ codes "make") × (id.now ≡ word words 2) × (key.now ≡ word words 3) × (hardware.now ≡ word words 4)
+Parses words (Some (Make making)) =
+    (length words ≡ 5) × (word words 1 ≡ codes "make") × (making.id.now ≡ word words 2) × (making.key_file.now ≡ word words 3)
+    × (making.hardware_file.now ≡ word words 4)
 Parses words None =
     (length words ≢ 1) × (length words ≡ 2 → word words 1 ≢ codes "help") × (length words ≡ 5 → word words 1 ≢ codes "make")

@@ -1,5 +1,6 @@
 pub mod Call
 pub mod KeyFile
+pub mod KeyFileOr
 pub mod Make
 pub mod Open
 pub mod Refused

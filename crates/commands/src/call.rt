@@ -1,6 +1,6 @@
 // What the program was called to do.
-ghost use Rattle.std.specs.Prelude.{◌≡◌, map, string_bytes};
-ghost use Rattle.commands.specs.Call.{Parses, word as word_at};
+ghost use Rattle.std.specs.Prelude.{map, string_bytes};
+ghost use Rattle.commands.specs.Call.{Parses};
 
 pub const USAGE: &str = "usage: permits
            tell the story of a user permit on built-in samples
@@ -11,44 +11,35 @@ pub const USAGE: &str = "usage: permits
        permits help
            print this";
 
+// What is made, of which files.
+#[derive(Drop)]
+pub struct Making<'a> {
+    pub id: &'a str,
+    pub key_file: &'a str,
+    pub hardware_file: &'a str,
+}
+
 #[derive(Drop)]
 pub enum Command<'a> {
     Story,
     Help,
-    Make {
-        id: &'a str,
-        key_file: &'a str,
-        hardware_file: &'a str,
-    },
-}
-
-// A word of the call, and no text where there are not so many.
-fn word(words: &[String], i: usize) -> &str
-    ensures { result.now ≡ word_at (map string_bytes words.now) i }
-{
-    if i < words.len() {
-        words[i].as_str()
-    } else {
-        ""
-    }
+    Make(Making<'a>),
 }
 
 // The words are those of the call, the program's own name first.
 pub fn parse(words: &[String]) -> Option<Command<'_>>
     ensures { Parses (map string_bytes words.now) result }
 {
-    let name = word(words, 1);
-    if words.len() == 1 {
-        Some(Command::Story)
-    } else if words.len() == 2 && name == "help" {
-        Some(Command::Help)
-    } else if words.len() == 5 && name == "make" {
-        Some(Command::Make {
-            id: word(words, 2),
-            key_file: word(words, 3),
-            hardware_file: word(words, 4),
-        })
-    } else {
-        None
+    match words {
+        [_] => Some(Command::Story),
+        [_, name] if name.as_str() == "help" => Some(Command::Help),
+        [_, name, id, key_file, hardware_file] if name.as_str() == "make" => {
+            Some(Command::Make(Making {
+                id: id.as_str(),
+                key_file: key_file.as_str(),
+                hardware_file: hardware_file.as_str(),
+            }))
+        }
+        _ => None,
     }
 }

@@ -1,6 +1,8 @@
 // Files of 32 hexadecimal digits, with or without a line feed behind them.
 ghost use Rattle.std.specs.Prelude.{◌≡◌, Some};
 ghost use Rattle.commands.specs.KeyFile.{ReadsKey, unended, key_file_number, key_file_words};
+ghost use Rattle.commands.specs.KeyFileOr.{key_file_or_number, key_file_or_words};
+ghost use Rattle.commands.specs.declared.key_file.KeyFileOr.TheVariants.{KeyFile};
 
 use fields::fault::FieldFault;
 use octets::block::Block;
@@ -31,20 +33,51 @@ impl fmt::Display for KeyFileFault {
     }
 }
 
+// A call that takes its key from a file is refused for that file, or as the call itself is refused.
+#[derive(Clone, Copy, Debug, PartialEq, Eq)]
+pub enum KeyFileOr<R> {
+    KeyFile(KeyFileFault),
+    Call(R),
+}
+
+impl<R: Refusal> Refusal for KeyFileOr<R> {
+    ghost numbered = { key_file_or_number R.Refusal.numbered };
+
+    fn number(&self) -> u8 {
+        match self {
+            KeyFileOr::KeyFile(fault) => fault.number(),
+            KeyFileOr::Call(refusal) => refusal.number(),
+        }
+    }
+}
+
+impl<R: Refusal> fmt::Display for KeyFileOr<R> {
+    ghost output = { key_file_or_words R.Display.output };
+
+    fn fmt<W: fmt::Write>(&self, f: &mut fmt::Formatter<W>) -> fmt::Result {
+        match self {
+            KeyFileOr::KeyFile(fault) => write!(f, "{fault}"),
+            KeyFileOr::Call(refusal) => write!(f, "{refusal}"),
+        }
+    }
+}
+
+impl<R> From<KeyFileFault> for KeyFileOr<R> {
+    ghost from_gives = { λ fault r. r ≡ KeyFile fault };
+
+    fn from(fault: KeyFileFault) -> KeyFileOr<R> {
+        KeyFileOr::KeyFile(fault)
+    }
+}
+
 fn without_line_feed(text: &[u8]) -> &[u8]
     ensures { result.now ≡ unended text.now }
 {
-    let [front @ .., last] = text else {
-        return text;
-    };
-    if *last == b'\n' { front } else { text }
+    text.strip_suffix(b"\n").unwrap_or(text)
 }
 
 pub fn read(text: &[u8]) -> Result<Block, KeyFileFault>
     ensures { ReadsKey text.now result }
 {
-    match hex::decode(without_line_feed(text)) {
-        Some(key) => Ok(key),
-        None => Err(KeyFileFault),
-    }
+    hex::decode(without_line_feed(text)).ok_or(KeyFileFault)
 }

@@ -1,35 +1,27 @@
-use Rattle.std.proofs.Common.{string_bytes, sym, ◌∙◌, arith}
-use mathlib.Core.Bool.{false≢true}
-use Rattle.std.proofs.lemmas.List.{length-map}
+use Rattle.std.proofs.Common.{◌≡◌, ℕ, ◌<◌, List, [], Global, String, get_or, length, map, string_bytes, sym, ap, ◌∙◌, arith}
+use Rattle.std.proofs.lemmas.List.{get_or-map, length-map}
 use Rattle.std.proofs.lemmas.Slice.Eq.{bytes_eq-Decides}
+use Rattle.commands.specs.Call.{word}
 use Rattle.commands.proofs.call.parse.Goals as goal
-use Rattle.commands.proofs.call.parse.Goals.{else-words-eq2-via-then-words-eq2+else-eq, else-words-eq2-via-else-words-eq2, else-words-eq5-via-then-words-eq5+else-eq-2, else-words-eq5-via-else-words-eq5}
 
-pub returns-then-words-eq1 : goal.returns-then-words-eq1
-returns-then-words-eq1 c = length-map _ _ ∙ c.if-words-eq1.true
+-- a word of the call, as text
+module _ (words : List (String Global)) (i : ℕ) (item : String Global) (text : List ℕ) where
+  pub text_is : i < length words → item ≡ get_or words i item → text ≡ string_bytes item → text ≡ word (map string_bytes words) i
+  text_is lt is told = told ∙ ap string_bytes is ∙ sym (get_or-map string_bytes words i item [] lt)
 
-pub returns-then-eq : goal.returns-then-eq
-returns-then-eq c = (length-map _ _ ∙ c.if-words-eq2.true, sym c.word-name.ensures ∙ (bytes_eq-Decides _ _).0 (sym c.if-eq.ensures))
+pub returns-in-len2 : goal.returns-in-len2
+returns-in-len2 c =
+    let words = c.args.words.now in (
+      length-map words string_bytes ∙ (omega arith),
+      sym (text_is words 1 _ _ (omega arith) c.name-item.is c.as_str.ensures.value) ∙ (bytes_eq-Decides _ _).0 (sym c.if-eq.ensures),
+    )
 
-pub returns-then-eq-2 : goal.returns-then-eq-2
-returns-then-eq-2 c = (
-  length-map _ _ ∙ c.if-words-eq5.true,
-  sym c.word-name.ensures ∙ (bytes_eq-Decides _ _).0 (sym c.if-eq-2.ensures),
-  c.word.ensures,
-  c.word-then-eq-2.ensures,
-  c.word-then-eq-2-2.ensures,
-)
-
-pub returns-else-words-eq5 : goal.returns-else-words-eq5
-returns-else-words-eq5 c =
-    let long = length-map c.args.words.now string_bytes in (
-      λ e. c.if-words-eq1.false (omega arith),
-      λ e named. elim c.else-words-eq2.branch [
-        | else-words-eq2-via-then-words-eq2+else-eq w ↦ false≢true (w.if-eq.ensures ∙ (bytes_eq-Decides _ _).1 (c.word-name.ensures ∙ named))
-        | else-words-eq2-via-else-words-eq2 w ↦ w.if-words-eq2.false (omega arith)
-      ],
-      λ e named. elim c.else-words-eq5.branch [
-        | else-words-eq5-via-then-words-eq5+else-eq-2 w ↦ false≢true (w.if-eq-2.ensures ∙ (bytes_eq-Decides _ _).1 (c.word-name.ensures ∙ named))
-        | else-words-eq5-via-else-words-eq5 w ↦ w.if-words-eq5.false (omega arith)
-      ],
+pub returns-in-len5 : goal.returns-in-len5
+returns-in-len5 c =
+    let words = c.args.words.now in (
+      length-map words string_bytes ∙ (omega arith),
+      sym (text_is words 1 _ _ (omega arith) c.name-item-then-words-lt6.is c.as_str-then-words-lt6.ensures.value) ∙ (bytes_eq-Decides _ _).0 (sym c.if-eq-2.ensures),
+      text_is words 2 _ _ (omega arith) c.id-item.is c.as_str-in-len5.ensures.value,
+      text_is words 3 _ _ (omega arith) c.key_file-item.is c.as_str-in-len5-2.ensures.value,
+      text_is words 4 _ _ (omega arith) c.hardware_file-item.is c.as_str-in-len5-3.ensures.value,
     )
