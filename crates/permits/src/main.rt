@@ -15,17 +15,10 @@ use std::process::ExitCode;
 
 fn run(rt: &HostRuntime) -> Result<(), Failure> {
     let words = env::args(rt)?.collect::<Vec<String>>(rt.alloc())?;
-    match call::parse(words.as_slice()) {
-        Some(Command::Story) => story::tell(rt),
-        Some(Command::Help) => Ok(rt.println(call::USAGE)?),
-        Some(
-            Command::Make {
-                id,
-                key_file,
-                hardware_file,
-            },
-        ) => make::run(rt, id, key_file, hardware_file),
-        None => Err(Failure::Usage),
+    match call::parse(words.as_slice()).ok_or(Failure::Usage)? {
+        Command::Story => story::tell(rt),
+        Command::Help => Ok(rt.println(call::USAGE)?),
+        Command::Make(making) => make::run(rt, &making),
     }
 }
 

@@ -1,25 +1,20 @@
 // The command that makes a user permit.
 use crate::failure::Failure;
 use aes::aes128::Aes128;
+use commands::call::Making;
 use commands::make::user_permit;
 use std::fs;
 
 fn contents(rt: &HostRuntime, file: &str) -> Result<Vec<u8>, Failure> {
-    match fs::read(rt, file) {
-        Ok(bytes) => Ok(bytes),
-        Err(error) => Err(Failure::Unreadable(String::from_str(rt.alloc(), file)?, error)),
-    }
+    fs::read(rt, file).try_map_err(|error| -> Result<Failure, Failure> {
+        Ok(Failure::Unreadable(String::from_str(rt.alloc(), file)?, error))
+    })
 }
 
-pub(crate) fn run(
-    rt: &HostRuntime,
-    id: &str,
-    key_file: &str,
-    hardware_file: &str,
-) -> Result<(), Failure> {
-    let key = contents(rt, key_file)?;
-    let hardware = contents(rt, hardware_file)?;
-    let permit = user_permit::<Aes128>(id.as_bytes(), key.as_slice(), hardware.as_slice())?;
+pub(crate) fn run(rt: &HostRuntime, making: &Making<'_>) -> Result<(), Failure> {
+    let key = contents(rt, making.key_file)?;
+    let hardware = contents(rt, making.hardware_file)?;
+    let permit = user_permit::<Aes128>(making.id.as_bytes(), key.as_slice(), hardware.as_slice())?;
     println!(rt; "{permit}")?;
     Ok(())
 }

@@ -4,6 +4,7 @@ use crate::mistyped;
 use crate::samples::{KEY, MANUFACTURER, OTHER_SHIP, SHIP, UNLAWFUL};
 use aes::aes128::Aes128;
 use cipher::block_cipher::BlockCipher;
+use commands::make::NotMade;
 use octets::refusal::Refusal;
 use std::io;
 use user_permit::check::check;
@@ -13,7 +14,7 @@ use user_permit::secrets::HardwareId;
 
 fn system(rt: &HostRuntime, hardware: &HardwareId) -> Result<[u8; 46], Failure> {
     let mut text = [0; 46];
-    make::<Aes128>(MANUFACTURER.as_bytes(), &KEY, hardware, &mut text)?;
+    make::<Aes128>(MANUFACTURER.as_bytes(), &KEY, hardware, &mut text).map_err(NotMade::Call)?;
     let shown = String::from_utf8_lossy(rt.alloc(), &text)?;
     let [first, .., last] = hardware.0;
     println!(rt; "   hardware ID      {first:02X}............................{last:02X}")?;
@@ -22,12 +23,9 @@ fn system(rt: &HostRuntime, hardware: &HardwareId) -> Result<[u8; 46], Failure> 
 }
 
 fn made(rt: &HostRuntime) -> Result<[u8; 46], Failure> {
-    let [major, _, minor, _, patch] = Aes128::version();
-    let major = char::from(major);
-    let minor = char::from(minor);
-    let patch = char::from(patch);
+    let version = String::from_utf8_lossy(rt.alloc(), &Aes128::version())?;
     println!(rt; "1. A manufacturer makes user permits for two of its chart systems.")?;
-    println!(rt; "   cipher           AES-128, version {major}.{minor}.{patch}")?;
+    println!(rt; "   cipher           AES-128, version {version}")?;
     println!(rt; "   manufacturer ID  {MANUFACTURER}")?;
     let text = system(rt, &SHIP)?;
     println!(rt; "                    |-- hardware ID, enciphered ---||-CRC--||-ID-|")?;
@@ -43,6 +41,7 @@ fn accepted(rt: &HostRuntime, text: &[u8]) -> Result<UserPermit, Failure> {
     Ok(permit)
 }
 
+// Two words: an impl of Display would be longer than this.
 fn yes_or_no(answer: bool) -> &'static str {
     if answer { "yes" } else { "no" }
 }
