@@ -11,7 +11,7 @@ use user_permit::secrets::{HardwareId, ManufacturerKey};
 
 pub type NotMade = KeyFileOr<MakeRefusal>;
 
-// What is made is always accepted by the check, so the last arm is never reached.
+// What is made is always accepted by the check, so there is a permit to unwrap.
 pub fn user_permit<C: BlockCipher + Drop>(
     id: &[u8],
     key_file: &[u8],
@@ -23,8 +23,5 @@ pub fn user_permit<C: BlockCipher + Drop>(
     let hardware = HardwareId(key_file::read(hardware_file)?);
     let mut text = [0; 46];
     make::<C>(id, &key, &hardware, &mut text).map_err(KeyFileOr::Call)?;
-    match check(&text) {
-        Ok(permit) => Ok(permit),
-        Err(_) => unreachable(),
-    }
+    Ok(check(&text).unwrap())
 }

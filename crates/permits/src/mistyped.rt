@@ -21,8 +21,5 @@ pub fn mistype(permit: &UserPermit) -> [u8; 46]
 pub fn refusal(permit: &UserPermit) -> CheckRefusal
     ensures { result ≡ Checksum }
 {
-    match check(&mistype(permit)) {
-        Err(refusal) => refusal,
-        Ok(_) => unreachable(),
-    }
+    check(&mistype(permit)).unwrap_err()
 }
