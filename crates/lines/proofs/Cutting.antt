@@ -1,31 +1,34 @@
--- The first line of a text. Assumes nothing.
-use Rattle.std.proofs.Common.{◌≡◌, ℕ, zero, suc, ◌<◌, List, [], ◌∷◌, ◌++◌, length, get_or, take, drop, ap, ◌∙◌, le_of_suc-le-suc, not-suc-le-zero, arith}
-use lib.Seq.{split_at}
-use Rattle.std.proofs.lemmas.Bool.{cond-true, cond-false, eq-eqb, ne_eqb}
-use Rattle.lines.specs.Lines.{prepend, lines}
+-- The first line of a text, and how many there are. Assumes nothing.
+use Rattle.std.proofs.Common.{◌≡◌, ℕ, ◌+◌, ◌<◌, ◌≤◌, Bool, List, [], ◌∷◌, length, take, drop, position, Some, None, ◌==◌, arith}
+use Rattle.std.specs.List.{position_or_len}
+use Rattle.std.proofs.lemmas.Bool.Decides.{nat_tests}
+use Rattle.std.proofs.lemmas.Grind.{common_steps}
+use Rattle.lines.specs.Lines.{lines}
 
--- none of the first n bytes is LF
-abbrev pub Unbroken : List ℕ → ℕ → Type 0
-Unbroken t n = (k : ℕ) → k < n → get_or t k 0 ≡ 10 → ⊥
+abbrev pub is_lf : ℕ → Bool
+is_lf b = b == 10
 
--- a byte that is not LF goes on the first line
-goes_on : (b : ℕ) (t : List ℕ) (n : ℕ) → Unbroken (b ∷ t) (suc n) → lines (b ∷ t) ≡ prepend b (lines t)
+ended : (t : List ℕ) → position_or_len is_lf t < length t → lines t ≡ take (position_or_len is_lf t) t ∷ lines (drop (position_or_len is_lf t + 1) t)
 unfolding lines
-goes_on b t n before = cond-false _ _ _ (ne_eqb b 10 (before 0 (omega arith)))
+ended [] h = absurd (omega arith)
+ended (b ∷ t) h = grind (arith, nat_tests, common_steps, ended t)
 
-pub cut_there : (t : List ℕ) (i : ℕ) → i < length t → get_or t i 0 ≡ 10 → t ≡ take i t ++ 10 ∷ drop (suc i) t
-cut_there t i h here = split_at t i 0 h ∙ ap (λ b. take i t ++ b ∷ drop (suc i) t) here
-
-pub ended_line : (t : List ℕ) (i : ℕ) → i < length t → Unbroken t i → get_or t i 0 ≡ 10 → lines t ≡ take i t ∷ lines (drop (suc i) t)
+unended : (t : List ℕ) → 0 < length t → length t ≤ position_or_len is_lf t → lines t ≡ t ∷ []
 unfolding lines
-ended_line [] i h before here = absurd (not-suc-le-zero h)
-ended_line (b ∷ t) zero h before here = cond-true _ _ _ (eq-eqb b 10 here)
-ended_line (b ∷ t) (suc i) h before here =
-    goes_on b t i before ∙ ap (prepend b) (ended_line t i (le_of_suc-le-suc h) (λ k l. before (suc k) (omega arith)) here)
+unended [] some h = absurd (omega arith)
+unended (b ∷ []) some h = grind (arith, nat_tests, common_steps)
+unended (b ∷ c ∷ t) some h = grind (arith, nat_tests, common_steps, unended (c ∷ t))
 
-pub last_line : (t : List ℕ) → 0 < length t → Unbroken t (length t) → lines t ≡ t ∷ []
+-- the place of the first LF tells the first line
+pub ended_line : (t : List ℕ) (i : ℕ) → Some i ≡ position is_lf t → lines t ≡ take i t ∷ lines (drop (i + 1) t)
+ended_line t i e = grind (arith, nat_tests, common_steps, ended t)
+
+pub last_line : (t : List ℕ) → None ≡ position is_lf t → 0 < length t → lines t ≡ t ∷ lines []
 unfolding lines
-last_line [] h before = absurd (not-suc-le-zero h)
-last_line (b ∷ []) h before = goes_on b [] 0 before
-last_line (b ∷ c ∷ t) h before =
-    goes_on b (c ∷ t) _ before ∙ ap (prepend b) (last_line (c ∷ t) (omega arith) (λ k l. before (suc k) (omega arith)))
+last_line t e some = grind (arith, nat_tests, common_steps, unended t)
+
+-- no text has more lines than bytes
+pub lines_short : (t : List ℕ) → length (lines t) ≤ length t
+unfolding lines
+lines_short [] = omega arith
+lines_short (b ∷ t) = grind (arith, nat_tests, common_steps, lines_short t)

@@ -2,7 +2,7 @@
 ghost use Rattle.std.specs.Prelude.{◌≡◌, ℕ, List, IfOk, string_bytes};
 ghost use Rattle.lines.specs.Report.{report_of};
 
-use crate::cut::first_line;
+use crate::cut::Lines;
 use std::alloc::{AllocError, Global};
 
 // What a program answers to a line.
@@ -14,17 +14,13 @@ pub trait Row {
         ensures { IfOk result (λ s. string_bytes s ≡ row number line.now) };
 }
 
+#[tactic(auto, using(crate::proofs::Cutting::lines_short), unfolding(crate::specs::Report::rows))]
 pub fn report<R: Row>(heap: Global, input: &[u8]) -> Result<String, AllocError>
     ensures { IfOk result (λ s. string_bytes s ≡ report_of R.Row.row input.now) }
 {
     let mut text = String::new(heap);
-    let mut rest = input;
-    let mut number = 0;
-    while !rest.is_empty() {
-        let (line, after) = first_line(rest);
-        number += 1;
+    for (line, number) in Lines::of(input).zip(1..) {
         text.push_str(R::make(heap, number, line)?.as_str())?;
-        rest = after;
     }
     Ok(text)
 }

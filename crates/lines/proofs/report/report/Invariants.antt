@@ -3,11 +3,9 @@ use Rattle.lines.specs.Lines.{lines}
 use Rattle.lines.specs.Report.{rows, report_of}
 use Rattle.lines.proofs.report.report.Given as goal
 
--- the text so far, and the rows of the rest behind it; a line is taken off the rest for each that has a number
-abbrev pub invariant-loop-rest : goal.invariant-loop-rest
-invariant-loop-rest g l =
-    (string_bytes l.text ++ rows g.R.Row.row (l.number + 1) (lines l.rest) ≡ report_of g.R.Row.row l.input)
-    × (l.number + length l.rest ≤ length l.input)
-
-abbrev pub decreases-loop-rest : goal.decreases-loop-rest
-decreases-loop-rest g l = length l.rest
+-- the text so far, and the rows of the lines that are left behind it; the numbers do not run out before the lines do
+abbrev pub invariant-loop-line : goal.invariant-loop-line
+invariant-loop-line g l =
+    let left = lines l.line-iterator.a.rest.now in
+    let number = l.line-iterator.b.start in
+    record { so_far : string_bytes l.text ++ rows g.R.Row.row number left ≡ report_of g.R.Row.row l.input; numbered : number + length left ≤ length l.input + 1 }
