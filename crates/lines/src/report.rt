@@ -5,7 +5,7 @@ ghost use Rattle.lines.specs.Report.{report_of};
 use crate::cut::Lines;
 use std::alloc::{AllocError, Global};
 
-// What a program answers to a line.
+// What a program answers to a line: a trait and no closure, since the contract of a report names the row.
 pub trait Row {
     // of the line's number, which counts from 1, and of the line: its row, with what ends it
     ghost row: { ℕ → List ℕ → List ℕ };
