@@ -1,6 +1,6 @@
 // CRC-32 a byte at a time: the table has what each byte's eight bits would do to the register.
 ghost use Rattle.std.specs.Prelude.{◌≡◌};
-ghost use Rattle.user_permit.specs.Crc32.{crc32, Examples};
+ghost use Rattle.user_permit.specs.Crc32.{byte_in, crc32, Examples};
 
 const TABLE: [u32; 256] = [
     0x0000_0000,
@@ -261,14 +261,17 @@ const TABLE: [u32; 256] = [
     0x2d02_ef8d,
 ];
 
+// The register after one more byte.
+fn step(crc: u32, byte: u8) -> u32
+    ensures { result ≡ byte_in crc byte }
+{
+    let [low, ..] = crc.to_le_bytes();
+    TABLE[usize::from(low ^ byte)] ^ (crc >> 8)
+}
+
 pub fn crc32(text: &[u8]) -> u32
     ensures value { result ≡ crc32 text.now }
     ensures examples { Examples }
 {
-    let mut crc = u32::MAX;
-    for byte in text {
-        let low = (crc ^ u32::from(*byte)) & 0xff;
-        crc = TABLE[low as usize] ^ (crc >> 8);
-    }
-    crc ^ u32::MAX
+    text.iter().copied().fold(u32::MAX, step) ^ u32::MAX
 }
