@@ -22,18 +22,6 @@ pub enum CheckRefusal {
     Checksum,
 }
 
-impl CheckRefusal {
-    fn words(&self) -> &'static str
-        ensures { result.now ≡ check_words self.now }
-    {
-        match self {
-            CheckRefusal::Length => "a user permit has 46 characters",
-            CheckRefusal::Character => "a character of the user permit is outside its set",
-            CheckRefusal::Checksum => "the checksum of the user permit disagrees",
-        }
-    }
-}
-
 impl Refusal for CheckRefusal {
     ghost numbered = { check_number };
 
@@ -50,7 +38,11 @@ impl fmt::Display for CheckRefusal {
     ghost output = { λ e. Some (check_words e) };
 
     fn fmt<W: fmt::Write>(&self, f: &mut fmt::Formatter<W>) -> fmt::Result {
-        f.pad(self.words())
+        f.pad(match self {
+            CheckRefusal::Length => "a user permit has 46 characters",
+            CheckRefusal::Character => "a character of the user permit is outside its set",
+            CheckRefusal::Checksum => "the checksum of the user permit disagrees",
+        })
     }
 }
 
@@ -61,32 +53,27 @@ struct Parts {
     manufacturer: ManufacturerId,
 }
 
-// The three parts of a text, if each character is in its set.
-fn part(text: &[u8; 46]) -> Option<Parts>
-    ensures { Parted text.now result }
-{
-    let encrypted = hex::decode(&text[0..32])?;
-    let checksum = hex::decode(&text[32..40])?;
-    let Ok(manufacturer) = ManufacturerId::read(&text[40..46]) else {
-        return None;
-    };
-    Some(Parts {
-        encrypted,
-        checksum,
-        manufacturer,
-    })
+impl Parts {
+    // The parts of a text, if each character is in its set.
+    fn read(text: &[u8; 46]) -> Option<Parts>
+        ensures { Parted text.now result }
+    {
+        let (encrypted, rest) = text.split_at(32);
+        let (checksum, manufacturer) = rest.split_at(8);
+        Some(Parts {
+            encrypted: hex::decode(encrypted)?,
+            checksum: hex::decode(checksum)?,
+            manufacturer: ManufacturerId::read(manufacturer).ok()?,
+        })
+    }
 }
 
 pub fn check(text: &[u8]) -> Result<UserPermit, CheckRefusal>
     ensures answer { Checked text.now result }
     ensures altered { (t : List ℕ) → Lawful t → Altered t text.now → is_err result ≡ true }
 {
-    let Ok(text) = <[u8; 46]>::try_from(text) else {
-        return Err(CheckRefusal::Length);
-    };
-    let Some(parts) = part(&text) else {
-        return Err(CheckRefusal::Character);
-    };
+    let text = <[u8; 46]>::try_from(text).map_err(|_| CheckRefusal::Length)?;
+    let parts = Parts::read(&text).ok_or(CheckRefusal::Character)?;
     if parts.checksum != crc32(&text[0..32]).to_be_bytes() {
         return Err(CheckRefusal::Checksum);
     }
