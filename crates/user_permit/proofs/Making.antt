@@ -13,8 +13,11 @@ use Rattle.user_permit.specs.Make.{making}
 use Rattle.user_permit.specs.declared.make.MakeRefusal.{MakeRefusal}
 use Rattle.user_permit.specs.Lawful.{Lawful, big_endian, checksum_of, permit_text}
 use Rattle.user_permit.proofs.Agreement.{big_endian_small}
-use Rattle.user_permit.proofs.Composing.{length-checksum_of}
 use Rattle.user_permit.proofs.Sets.{from_parts}
+
+length-checksum_of : (t : List ℕ) → length (checksum_of t) ≡ 8
+unfolding checksum_of
+length-checksum_of t = length-hex (big_endian (crc32 t))
 
 checksum_digits : (t : List ℕ) → Digits (checksum_of t)
 unfolding checksum_of

@@ -41,12 +41,10 @@ impl fmt::Display for MakeRefusal {
     ghost output = { λ e. Some (make_words e) };
 
     fn fmt<W: fmt::Write>(&self, f: &mut fmt::Formatter<W>) -> fmt::Result {
-        match self {
-            MakeRefusal::Field(_) => f.pad(
-                "a manufacturer ID has six characters of 0 to 9 and A to Z",
-            ),
-            MakeRefusal::Output(_) => f.pad("the output has no room for 46 characters"),
-        }
+        f.pad(match self {
+            MakeRefusal::Field(_) => "a manufacturer ID has six characters of 0 to 9 and A to Z",
+            MakeRefusal::Output(_) => "the output has no room for 46 characters",
+        })
     }
 }
 
@@ -66,23 +64,16 @@ impl From<TooShort> for MakeRefusal {
     }
 }
 
-// The digits of a text's checksum.
-fn checksum(text: &[u8]) -> [u8; 8]
-    ensures { result ≡ checksum_of text.now }
-{
-    let mut sum = [0; 8];
-    let _ = hex::encode(&crc32(text).to_be_bytes(), &mut sum);
-    sum
-}
-
+// The digits of the block, those of their checksum, and the manufacturer ID.
 fn compose(encrypted: &Block, id: &ManufacturerId, out: &mut [u8])
     requires { 46 ≤ length out.old }
     ensures { out.new ≡ permit_text encrypted.now id.now.text ++ drop 46 out.old }
 {
-    let _ = hex::encode(encrypted, &mut out[0..32]);
-    let sum = checksum(&out[0..32]);
-    out[32..40].copy_from_slice(&sum);
-    out[40..46].copy_from_slice(id.text());
+    let (digits, rest) = out.split_at_mut(32);
+    let (sum, rest) = rest.split_at_mut(8);
+    hex::encode(encrypted, digits).unwrap();
+    hex::encode(&crc32(digits).to_be_bytes(), sum).unwrap();
+    rest[..6].copy_from_slice(id.text());
 }
 
 // Writes the user permit of a hardware ID: 46 characters.

@@ -5,11 +5,13 @@ use crate::secrets::{HardwareId, ManufacturerKey};
 use cipher::demonstration::Demonstration;
 use octets::refusal::Refusal;
 
+// The number of a refusal, and 0 where there is none.
+fn number<T: Drop, R: Refusal + Drop>(answer: Result<T, R>) -> u8 {
+    answer.err().map_or(0, |refusal| refusal.number())
+}
+
 fn verdict(text: &[u8]) -> u8 {
-    match check::check(text) {
-        Ok(_) => 0,
-        Err(refusal) => refusal.number(),
-    }
+    number(check::check(text))
 }
 
 // The user permits that Part 15 prints, and a checksum that has been printed with the second.
@@ -56,10 +58,8 @@ fn refused_in_order(rt: HostRuntime) {
 }
 
 fn made(id: &[u8], out: &mut [u8]) -> u8 {
-    match make::<Demonstration>(id, &ManufacturerKey([255; 16]), &HardwareId([0; 16]), out) {
-        Ok(_) => 0,
-        Err(refusal) => refusal.number(),
-    }
+    let key = ManufacturerKey([255; 16]);
+    number(make::<Demonstration>(id, &key, &HardwareId([0; 16]), out))
 }
 
 #[test]
