@@ -2,7 +2,7 @@
 ghost use Rattle.std.specs.Prelude.{◌≡◌, ◌≤◌, true, ◌++◌, length, take, drop, is_ok, IfOk, Some};
 ghost use Rattle.octets.specs.Output.{Writes};
 ghost use Rattle.user_permit.specs.Hardware.{hardware_id};
-ghost use Rattle.user_permit.specs.Lawful.{Lawful, checksum_of, permit_text};
+ghost use Rattle.user_permit.specs.Lawful.{Lawful, permit_text};
 ghost use Rattle.user_permit.specs.Make.{make_number, make_words, making};
 ghost use Rattle.user_permit.specs.declared.make.MakeRefusal.TheVariants.{Field, Output};
 
