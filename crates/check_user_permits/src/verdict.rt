@@ -11,10 +11,7 @@ use user_permit::check::check;
 pub fn verdict(line: &[u8]) -> u8
     ensures { result ≡ verdict_of line.now }
 {
-    match check(line) {
-        Ok(_) => 0,
-        Err(refusal) => refusal.number(),
-    }
+    check(line).err().map_or(0, |refusal| refusal.number())
 }
 
 pub struct Verdicts;

@@ -1,9 +1,9 @@
-use Rattle.std.proofs.Common.{◌∙◌}
-use Rattle.check_user_permits.proofs.Verdicts.{lawful_verdict, refused_verdict}
+use Rattle.std.proofs.Common.{rules}
+use Rattle.check_user_permits.proofs.Verdicts.{answered}
 use Rattle.check_user_permits.proofs.verdict.verdict.Goals as goal
 
-pub returns-in-Ok : goal.returns-in-Ok
-returns-in-Ok c = lawful_verdict _ c.in-Ok.ensures.answer.0
-
-pub returns-in-Err : goal.returns-in-Err
-returns-in-Err c = c.number.ensures ∙ refused_verdict _ _ c.in-Err.ensures.answer
+pub returns : goal.returns
+returns c =
+    answered _ c.check.result _ c.check.ensures.answer
+    (λ permit is. rw (c.err.ensures.value, is) at c.map_or.ensures)
+    (λ e is. let told = rw (c.err.ensures.value, is) at c.map_or.ensures in search rules)
