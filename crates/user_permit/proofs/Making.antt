@@ -86,7 +86,7 @@ module _ (E D : List ℕ → List ℕ → List ℕ) (id key hardware before afte
   first : take 46 after ≡ made
   first = ap (take 46) stands ∙ take_at made (drop 46 before) 46 length_made
 
-  pub made_written : Writes (making E id key hardware (length before)) (Ok 46) before after
+  made_written : Writes (making E id key hardware (length before)) (Ok 46) before after
   unfolding made
   made_written =
       let meaning =
@@ -94,10 +94,13 @@ module _ (E D : List ℕ → List ℕ → List ℕ) (id key hardware before afte
       subst (λ m. Writes {E = MakeRefusal} m (Ok 46) before after) (sym meaning)
       (ap Ok (sym length_made), stands ∙ ap (λ n. made ++ drop n before) (sym length_made))
 
-  pub made_lawful : Lawful (take 46 after)
+  made_lawful : Lawful (take 46 after)
   unfolding made
   made_lawful = subst Lawful (sym first) (permit_lawful encrypted id block rule)
 
-  pub made_undone : hardware_id D key (take 46 after) ≡ hardware
+  made_undone : hardware_id D key (take 46 after) ≡ hardware
   unfolding made
   made_undone = ap (λ t. D key (unhex (take 32 t))) first ∙ ap (D key) (permit_block encrypted id block rule) ∙ undoes
+
+  pub all_made : Writes (making E id key hardware (length before)) (Ok 46) before after × Lawful (take 46 after) × (hardware_id D key (take 46 after) ≡ hardware)
+  all_made = (made_written, made_lawful, made_undone)

@@ -269,6 +269,7 @@ fn step(crc: u32, byte: u8) -> u32
     TABLE[usize::from(low ^ byte)] ^ (crc >> 8)
 }
 
+#[tactic(auto, using(crate::proofs::Checksum::examples), unfolding(crate::specs::Crc32::register, crate::specs::Crc32::crc32))]
 pub fn crc32(text: &[u8]) -> u32
     ensures value { result ≡ crc32 text.now }
     ensures examples { Examples }

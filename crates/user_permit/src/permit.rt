@@ -25,6 +25,7 @@ impl UserPermit {
         &self.text
     }
 
+    #[tactic(auto, using(crate::proofs::Sets::permit_utf8))]
     pub fn as_str(&self) -> &str
         ensures { result.now ≡ self.now.text }
     {
