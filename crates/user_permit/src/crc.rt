@@ -2,6 +2,7 @@
 ghost use Rattle.std.specs.Prelude.{◌≡◌};
 ghost use Rattle.user_permit.specs.Crc32.{byte_in, crc32, Examples};
 
+// Each entry is spelled out, since a constant calls no function.
 const TABLE: [u32; 256] = [
     0x0000_0000,
     0x7707_3096,

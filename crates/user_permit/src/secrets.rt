@@ -1,4 +1,5 @@
-// Two secrets of sixteen bytes, which no call can mistake for each other.
+// Two secrets of sixteen bytes, which no call can mistake for each other. One type with a marker for each would say
+// no more.
 use octets::block::Block;
 
 #[derive(Clone, Copy)]
