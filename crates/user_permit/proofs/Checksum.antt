@@ -4,6 +4,7 @@ use Rattle.std.proofs.Common.{◌≡◌, ℕ, zero, suc, ◌+◌, ◌*◌, ◌/�
 use lib.Bits.{bit_xor, xor_assoc, xor_comm, xor_self, xor_zero_r, xor_lt, xor_shr, xor_mod, xor_shifted, shifted_half, shifted_even}
 use Rattle.std.proofs.lemmas.List.FromFn.{get_or-map-range_with_len}
 use Rattle.std.proofs.lemmas.List.{get_or-take, get_or-drop, get_or_past, drop-drop}
+use Rattle.std.proofs.lemmas.List.Sums.{fold-append}
 use Rattle.std.proofs.lemmas.Bool.{cases_lt}
 use Rattle.std.specs.List.{range_with_len}
 use Rattle.octets.specs.Bytes.{Small}
@@ -99,8 +100,7 @@ by_table r b i h is =
 
 pub register-append : (r : ℕ) (xs ys : List ℕ) → register r (xs ++ ys) ≡ register (register r xs) ys
 unfolding register
-register-append r [] ys = refl
-register-append r (x ∷ xs) ys = register-append (byte_in r x) xs ys
+register-append r xs ys = fold-append byte_in r xs ys
 
 pub register_fits : (r : ℕ) (bs : List ℕ) → r < 2 ^ 32 → Small bs → register r bs < 2 ^ 32
 unfolding register
