@@ -13,6 +13,7 @@ use lines::report::report;
 use std::io;
 use std::io::Read;
 
+// Reading and writing stay with each program: no contract could say what a shared function writes.
 fn main(rt: HostRuntime) -> io::Result<()> {
     let mut input = Vec::new(rt.alloc());
     rt.stdin().read_to_end(&mut input)?;

@@ -1,5 +1,5 @@
 // The caller's sixteen working bytes, lent to a call that recovers a secret. The guard's end writes zeros over them,
-// on every way out of the call.
+// on every way out of the call. That they are still the caller's is said at each call, since no type can say it.
 ghost use Rattle.std.specs.Prelude.{◌≡◌, replicate};
 
 use crate::block::Block;
