@@ -32,8 +32,7 @@ fn mix_column(w: Column) -> Column
 pub(crate) fn mix_columns(s: State) -> State
     ensures { result ≡ mix_columns s }
 {
-    let [a, b, c, d] = s;
-    [mix_column(a), mix_column(b), mix_column(c), mix_column(d)]
+    s.map(mix_column)
 }
 
 // The inverse matrix is the matrix times one with the coefficients 5, 0, 4, 0, so that doubling is all that is needed.
@@ -49,11 +48,5 @@ fn inv_mix_column(w: Column) -> Column
 pub(crate) fn inv_mix_columns(s: State) -> State
     ensures { result ≡ inv_mix_columns s }
 {
-    let [a, b, c, d] = s;
-    [
-        inv_mix_column(a),
-        inv_mix_column(b),
-        inv_mix_column(c),
-        inv_mix_column(d),
-    ]
+    s.map(inv_mix_column)
 }

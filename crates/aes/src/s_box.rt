@@ -59,37 +59,23 @@ fn inv_sub_byte(b: u8) -> u8
 pub(crate) fn sub_word(w: Column) -> Column
     ensures { result ≡ sub_word w }
 {
-    let [a, b, c, d] = w;
-    [sub_byte(a), sub_byte(b), sub_byte(c), sub_byte(d)]
+    w.map(sub_byte)
 }
 
 pub(crate) fn sub_bytes(s: State) -> State
     ensures { result ≡ sub_bytes s }
 {
-    let [a, b, c, d] = s;
-    [sub_word(a), sub_word(b), sub_word(c), sub_word(d)]
+    s.map(sub_word)
 }
 
 fn inv_sub_word(w: Column) -> Column
     ensures { result ≡ inv_sub_word w }
 {
-    let [a, b, c, d] = w;
-    [
-        inv_sub_byte(a),
-        inv_sub_byte(b),
-        inv_sub_byte(c),
-        inv_sub_byte(d),
-    ]
+    w.map(inv_sub_byte)
 }
 
 pub(crate) fn inv_sub_bytes(s: State) -> State
     ensures { result ≡ inv_sub_bytes s }
 {
-    let [a, b, c, d] = s;
-    [
-        inv_sub_word(a),
-        inv_sub_word(b),
-        inv_sub_word(c),
-        inv_sub_word(d),
-    ]
+    s.map(inv_sub_word)
 }
