@@ -1,5 +1,5 @@
 -- AES, as FIPS 197 has it: Cipher and InvCipher over expanded keys, and AES-128 with its ten rounds. Assumes nothing.
-use Rattle.std.specs.Prelude.{◌≡◌, ℕ, zero, suc, ◌+◌, ◌-◌, ◌*◌, List, [], ◌∷◌, slice_index_or}
+use Rattle.std.specs.Prelude.{◌≡◌, ℕ, zero, suc, ◌+◌, ◌-◌, ◌*◌, List, [], ◌∷◌, map, slice_index_or}
 use Rattle.std.specs.List.{range_with_len}
 use Rattle.aes.specs.Expansion.{key_expansion}
 use Rattle.aes.specs.Polynomials.{◌·◌}
@@ -34,6 +34,10 @@ inv_cipher nr w b =
 -- the words of a key of AES-128
 abbrev pub key_words : List ℕ → List (List ℕ)
 key_words k = key_expansion 4 10 k
+
+-- the round keys of a key of AES-128: for the start, and for each of ten rounds
+unfoldable pub round_keys : List ℕ → List State
+round_keys k = map (round_key (key_words k)) (range_with_len 0 11)
 
 unfoldable pub enc_block : List ℕ → List ℕ → List ℕ
 enc_block k b = cipher 10 (key_words k) b

@@ -3,7 +3,7 @@ use Rattle.std.specs.Prelude.{ℕ, zero, suc, ◌+◌, ◌-◌, ◌*◌, ◌/◌
 use Rattle.std.specs.List.{range_with_len}
 use Rattle.octets.specs.Bytes.{◌⊕◌}
 use Rattle.aes.specs.Polynomials.{power}
-use Rattle.aes.specs.Steps.{word, sub_word}
+use Rattle.aes.specs.Steps.{State, word, sub_word}
 
 -- the bytes of a word turned left by one place
 abbrev pub rot_word : List ℕ → List ℕ
@@ -23,6 +23,14 @@ turned nk i t =
 -- word i, from those before it
 unfoldable pub next : ℕ → List (List ℕ) → ℕ → List ℕ
 next nk w i = get_or w (i - nk) [] ⊕ turned nk i (slice_index_or w (i - 1) [])
+
+-- the round key after s in AES-128, whose keys have four words as the state has; p is the power of x
+abbrev pub following : State → ℕ → State
+following s p =
+    let a = get_or s 0 [] ⊕ (sub_word (rot_word (get_or s 3 [])) ⊕ (p ∷ 0 ∷ 0 ∷ 0 ∷ [])) in
+    let b = get_or s 1 [] ⊕ a in
+    let c = get_or s 2 [] ⊕ b in
+    a ∷ b ∷ c ∷ (get_or s 3 [] ⊕ c) ∷ []
 
 -- the words of the key k, and n more
 unfoldable pub expanded : ℕ → List ℕ → ℕ → List (List ℕ)

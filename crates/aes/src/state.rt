@@ -2,6 +2,7 @@
 ghost use Rattle.std.specs.Prelude.{◌≡◌};
 ghost use Rattle.aes.specs.Steps.{state, block, add_round_key};
 
+use crate::key_schedule::RoundKey;
 use octets::block::{Block, xor};
 
 pub(crate) type Column = [u8; 4];
@@ -22,10 +23,10 @@ pub(crate) fn to_block(s: State) -> Block
     [a, b, c, d, e, f, g, h, i, j, k, l, m, n, o, p]
 }
 
-pub(crate) fn add_round_key(s: State, key: State) -> State
-    ensures { result ≡ add_round_key s key }
+pub(crate) fn add_round_key(s: State, key: &RoundKey) -> State
+    ensures { result ≡ add_round_key s key.now.columns }
 {
     let [a, b, c, d] = s;
-    let [k, l, m, n] = key;
+    let [k, l, m, n] = key.columns;
     [xor(a, k), xor(b, l), xor(c, m), xor(d, n)]
 }
