@@ -1,7 +1,0 @@
-use Rattle.std.proofs.Common.{rules}
-use Rattle.aes.specs.Steps.{shift_rows}
-use Rattle.aes.proofs.rows.shift_rows.Goals as goal
-
-pub returns : goal.returns
-unfolding shift_rows
-returns c = search rules
