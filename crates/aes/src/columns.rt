@@ -5,12 +5,14 @@ ghost use Rattle.aes.specs.Steps.{mixed, mix_columns, inv_mix_columns};
 
 use crate::state::{Column, State};
 
+#[tactic(auto, using(crate::specs::Computed::doubled))]
 fn double(b: u8) -> u8
     ensures { result ≡ 2 · b }
 {
     (b << 1) ^ ((b >> 7) * 0x1b)
 }
 
+#[tactic(auto, using(crate::specs::Computed::tripled))]
 fn triple(b: u8) -> u8
     ensures { result ≡ 3 · b }
 {

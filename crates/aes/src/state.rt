@@ -9,6 +9,7 @@ pub(crate) type Column = [u8; 4];
 
 pub(crate) type State = [Column; 4];
 
+#[tactic(auto, unfolding(crate::specs::Steps::state))]
 pub(crate) fn from_block(bytes: Block) -> State
     ensures { result ≡ state bytes }
 {
@@ -16,6 +17,7 @@ pub(crate) fn from_block(bytes: Block) -> State
     [[a, b, c, d], [e, f, g, h], [i, j, k, l], [m, n, o, p]]
 }
 
+#[tactic(auto, unfolding(crate::specs::Steps::block))]
 pub(crate) fn to_block(s: State) -> Block
     ensures { result ≡ block s }
 {
@@ -23,6 +25,7 @@ pub(crate) fn to_block(s: State) -> Block
     [a, b, c, d, e, f, g, h, i, j, k, l, m, n, o, p]
 }
 
+#[tactic(auto, unfolding(crate::specs::Steps::add_round_key))]
 pub(crate) fn add_round_key(s: State, key: &RoundKey) -> State
     ensures { result ≡ add_round_key s key.now.columns }
 {
