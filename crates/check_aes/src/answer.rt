@@ -18,8 +18,8 @@ impl<C: BlockCipher + Drop> Row for Answers<C> {
             return String::from_str(heap, "unfit\n");
         };
         let cipher = C::new(&vector.key);
-        let enciphered = HexText::of(&repeat::encipher(&cipher, vector.count, vector.block));
-        let deciphered = HexText::of(&repeat::decipher(&cipher, vector.count, vector.block));
+        let enciphered = HexText(repeat::encipher(&cipher, vector.count, vector.block));
+        let deciphered = HexText(repeat::decipher(&cipher, vector.count, vector.block));
         format!(in heap; "{enciphered}\t{deciphered}\n")
     }
 }

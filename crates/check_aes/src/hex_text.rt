@@ -1,4 +1,4 @@
-// A block's digits as text.
+// A block printed by its hexadecimal digits.
 ghost use Rattle.std.specs.Prelude.{◌≡◌, Some};
 ghost use Rattle.octets.specs.Hex.{Digits, hex as hex_of};
 
@@ -8,26 +8,23 @@ use std::fmt;
 use std::str::from_utf8_unchecked;
 
 #[derive(Drop)]
-pub struct HexText {
-    digits: [u8; 32],
-    ghost hexadecimal: { Digits digits },
-}
+pub struct HexText(pub Block);
 
-impl HexText {
-    pub fn of(block: &Block) -> HexText
-        ensures { result.digits ≡ hex_of block.now }
-    {
-        let mut digits = [0; 32];
-        let _ = hex::encode(block, &mut digits);
-        HexText { digits }
-    }
+fn digits(block: Block) -> [u8; 32]
+    ensures value { result ≡ hex_of block }
+    ensures hexadecimal { Digits result }
+{
+    let mut digits = [0; 32];
+    let _ = hex::encode(&block, &mut digits);
+    digits
 }
 
 impl fmt::Display for HexText {
-    ghost output = { λ t. Some t.digits };
+    ghost output = { λ t. Some (hex_of t.0) };
 
     fn fmt<W: fmt::Write>(&self, f: &mut fmt::Formatter<W>) -> fmt::Result {
+        let digits = digits(self.0);
         // digits are ASCII
-        f.pad(unsafe { from_utf8_unchecked(&self.digits) })
+        f.pad(unsafe { from_utf8_unchecked(&digits) })
     }
 }

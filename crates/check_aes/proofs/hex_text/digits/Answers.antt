@@ -5,18 +5,17 @@ use Rattle.octets.specs.Output.{Writes, fitted}
 use Rattle.octets.specs.declared.output.TooShort.{TooShort}
 use Rattle.octets.proofs.Digits.{length-hex, hex_is_digits}
 use Rattle.octets.proofs.Fits.{fills}
-use Rattle.check_aes.proofs.hex_text.HexText.of.Goals as goal
+use Rattle.check_aes.proofs.hex_text.digits.Goals as goal
 
 -- 32 places hold the digits of a block, and nothing else
 whole : (r : Result ℕ TooShort) (bytes out : List ℕ) → Bytes 16 bytes → Writes (fitted (hex bytes) 32) r (replicate 32 0) out → out ≡ hex bytes
 whole r bytes out block = fills r (hex bytes) (replicate 32 0) out (length-hex bytes ∙ ap (λ n. 2 * n) block.long)
 
-pub invariant_of-result : goal.invariant_of-result
-invariant_of-result c =
-    let block : Bytes 16 c.args.block.now = search rules in
-    record { hexadecimal = subst Digits (sym (whole _ _ _ block c.encode.ensures)) (hex_is_digits _ block.small) }
-
 pub returns : goal.returns
 returns c =
-    let block : Bytes 16 c.args.block.now = search rules in
-    whole _ _ _ block c.encode.ensures
+    let block : Bytes 16 c.args.block = search rules in
+    let value = whole _ _ _ block c.encode.ensures in
+    record {
+      value = value;
+      hexadecimal = subst Digits (sym value) (hex_is_digits _ block.small);
+    }
