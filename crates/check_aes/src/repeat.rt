@@ -1,26 +1,16 @@
-// A block cipher over and over, each time on its own result.
-ghost use Rattle.std.specs.Prelude.{◌≡◌};
-ghost use Rattle.check_aes.specs.Repeated.{repeated};
+// A step over and over, each time on its own result.
+ghost use Rattle.std.specs.Prelude.{◌≡◌, ℕ, List};
+ghost use Rattle.check_aes.specs.Repeated.{repeated, Computes};
 
-use cipher::block_cipher::BlockCipher;
 use octets::block::Block;
 
-pub fn encipher<C: BlockCipher>(cipher: &C, count: u16, mut block: Block) -> Block
-    ensures { result ≡ repeated (C.enc (C.held cipher.now)) count block }
+pub fn repeat<F: Fn(Block) -> Block>(count: u16, mut block: Block, step: F) -> Block
+    requires { F.IsAlwaysCallable step }
+    ensures { (next : List ℕ → List ℕ) → Computes (F.post step) next → result ≡ repeated next count block }
 {
     for _ in 0..count {
         // an array that a call answers is proved only in a variable of its own
-        let next = cipher.encipher(block);
-        block = next;
-    }
-    block
-}
-
-pub fn decipher<C: BlockCipher>(cipher: &C, count: u16, mut block: Block) -> Block
-    ensures { result ≡ repeated (C.dec (C.held cipher.now)) count block }
-{
-    for _ in 0..count {
-        let next = cipher.decipher(block);
+        let next = step(block);
         block = next;
     }
     block
