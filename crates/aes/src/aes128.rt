@@ -56,6 +56,7 @@ impl BlockCipher for Aes128 {
         ensures value { result ≡ enc_block self.now.key block }
         ensures examples { Examples }
     {
+        // by places: a pattern with `middle @ ..` behind a reference gets no proof
         let mut s = add_round_key(from_block(block), &self.round_keys[0]);
         for key in &self.round_keys[1..ROUNDS] {
             s = add_round_key(mix_columns(shift_rows(sub_bytes(s))), key);

@@ -22,6 +22,7 @@ fn triple(b: u8) -> u8
 fn mix_column(w: Column) -> Column
     ensures { result ≡ mixed 2 3 1 1 w }
 {
+    // a line for each row of the matrix, as the standard prints them
     let [a, b, c, d] = w;
     [
         double(a) ^ triple(b) ^ c ^ d,

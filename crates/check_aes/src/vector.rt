@@ -15,6 +15,7 @@ pub struct Vector {
 pub fn read(line: &[u8]) -> Option<Vector>
     ensures { Reads line.now result }
 {
+    // by the places that the form names: cut off one after another, each field would want a cut and a contract more
     if line.len() != 70 || line[4] != b' ' || line[37] != b' ' {
         return None;
     }
