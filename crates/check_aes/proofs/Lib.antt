@@ -1,4 +1,2 @@
-pub mod Answering
 pub mod Form
-pub mod Repeating
 pub mod Texts
