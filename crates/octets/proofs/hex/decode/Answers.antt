@@ -1,6 +1,5 @@
-use Rattle.std.proofs.Common.{◌≡◌, ℕ, ◌+◌, ◌*◌, ◌/◌, ◌<◌, List, [], length, get_or, sym, refl, ap, ◌∙◌, arith}
+use Rattle.std.proofs.Common.{◌≡◌, ℕ, ◌+◌, ◌*◌, ◌/◌, ◌<◌, List, [], length, get_or, refl, ap, ◌∙◌, arith}
 use Rattle.std.specs.Simd.{first_chunks}
-use Rattle.std.proofs.lemmas.List.{take_all}
 use Rattle.octets.specs.Hex.{is_digit, hex, Digits}
 use Rattle.octets.proofs.Blocks.{bytes_zeros, bytes_set}
 use Rattle.octets.proofs.Chunks.{in_chunk}
@@ -37,10 +36,3 @@ returns-in_err-bytes g c =
     let outside : length text ≡ 2 * g.row.N → Digits text → ⊥ =
     λ _. no_digits text (2 * i) (omega arith) (λ h l. c.in_err-bytes.ensures (ap is_digit (high text _ i front (omega arith)) ∙ h) (ap is_digit (low text _ i front (omega arith)) ∙ l)) in
     rw c.from_residual.ensures outside
-
-pub returns : goal.returns
-returns g c =
-    let long = c.loop-i.invariant.0.long in
-    let whole-bytes = take_all c.loop-i.i c.loop-i.bytes (omega arith) in
-    let whole-text = take_all (2 * c.loop-i.i) c.args.text.now (omega arith) in
-    (c.loop-i.invariant.0, sym (ap hex whole-bytes) ∙ c.loop-i.invariant.1 ∙ whole-text)

@@ -1,9 +1,8 @@
-use Rattle.std.proofs.Common.{◌≡◌, ◌+◌, ◌*◌, ◌++◌, length, take, drop, Ok, sym, refl, ap, ◌∙◌, arith}
-use Rattle.std.proofs.lemmas.List.{take_all}
+use Rattle.std.proofs.Common.{◌+◌, ◌*◌, ◌++◌, length, take, drop, refl, ap, ◌∙◌, arith}
 use Rattle.octets.specs.Hex.{hex}
 use Rattle.octets.proofs.Chunks.{put_at}
 use Rattle.octets.proofs.Digits.{length-hex, written_more}
-use Rattle.octets.proofs.Fits.{fits, fits_not}
+use Rattle.octets.proofs.Fits.{fits_not}
 use Rattle.octets.proofs.hex.encode.Goals as goal
 
 pub returns-then-out-bytes : goal.returns-then-out-bytes
@@ -22,13 +21,3 @@ loop-i-preserved c =
     put_at 2 at out c.copy_from_slice.new.self
     ∙ ap (λ l. take at out ++ (l ++ drop (at + 2) out)) (c.copy_from_slice.ensures.after ∙ c.digits.ensures)
     ∙ written_more c.args.bytes.now c.args.out.now out c.loop-i.i (omega arith) c.loop-i.invariant
-
-pub returns : goal.returns
-returns c =
-    let bytes = c.args.bytes.now in
-    let long = length-hex bytes in
-    let done : c.loop-i.i ≡ length bytes = omega arith in
-    let all : c.loop-i.out ≡ hex bytes ++ drop (length (hex bytes)) c.args.out.now =
-    c.loop-i.invariant ∙ ap (λ l. hex l ++ drop (2 * c.loop-i.i) c.args.out.now) (take_all _ bytes (omega arith))
-    ∙ ap (λ n. hex bytes ++ drop n c.args.out.now) (ap (λ n. 2 * n) done ∙ sym long) in
-    rw (fits (hex bytes) (length c.args.out.now) (omega arith)) (ap Ok (sym long), all)
