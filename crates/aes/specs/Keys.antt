@@ -1,11 +1,11 @@
 -- An expanded key: how many words it has, and that each is four bytes. Assumes nothing.
-use Rattle.std.specs.Prelude.{◌≡◌, ℕ, zero, suc, ◌+◌, ◌-◌, ◌*◌, ◌/◌, ◌%◌, ◌<◌, ◌≤◌, Bool, true, false, cond, ◌&&◌, List, [], ◌∷◌, ◌++◌, map, length, ◌==◌, ◌≢◌, nat_lt, slice_index, slice_index_or}
+use Rattle.std.specs.Prelude.{◌≡◌, ℕ, zero, suc, ◌+◌, ◌-◌, ◌*◌, ◌/◌, ◌%◌, ◌<◌, ◌≤◌, Bool, true, false, cond, ◌&&◌, List, [], ◌∷◌, ◌++◌, map, length, get_or, take, ◌==◌, ◌≢◌, nat_lt, slice_index, slice_index_or, slice_set}
 use Rattle.std.proofs.Common.{refl, sym, ap, ap₂, ◌∙◌}
 use Rattle.std.proofs.Math.Logic.{⊎_elim}
 use native.Mathlib.Omega.{arith}
 use Rattle.std.proofs.Math.ListN.{length-append}
 use Rattle.std.proofs.lemmas.List.FromFn.{length-map-range_with_len, get_or-map-range_with_len}
-use Rattle.std.proofs.lemmas.List.{get_or_append_left, get_or-append_right}
+use Rattle.std.proofs.lemmas.List.{get_or_append_left, get_or-append_right, get_or-take, take_more_set}
 use Rattle.std.proofs.lemmas.Bool.{cases_lt, cond-true, cond-false, eq-eqb, ne_eqb}
 use Rattle.std.specs.List.{range_with_len}
 use Rattle.octets.specs.Bytes.{Bytes, ◌⊕◌}
@@ -76,10 +76,10 @@ round_key_lawful nk n i k some h fits = lawful_columns _ (λ c hc. expanded_byte
 pub power_at : (j : ℕ) → j < 10 → slice_index (map (power 2) (range_with_len 0 10)) j ≡ power 2 j
 power_at j h = get_or-map-range_with_len (power 2) 0 10 j j 0 h (omega arith)
 
-turned_first : (i p : ℕ) (t : List ℕ) → i % 4 ≡ 0 → p ≡ power 2 (i / 4 - 1) → sub_word (rot_word t) ⊕ (p ∷ 0 ∷ 0 ∷ 0 ∷ []) ≡ turned 4 i t
+pub turned_first : (i p : ℕ) (t : List ℕ) → i % 4 ≡ 0 → p ≡ power 2 (i / 4 - 1) → sub_word (rot_word t) ⊕ (p ∷ 0 ∷ 0 ∷ 0 ∷ []) ≡ turned 4 i t
 turned_first i p t divides is = ap (λ x. sub_word (rot_word t) ⊕ (x ∷ 0 ∷ 0 ∷ 0 ∷ [])) is ∙ sym (cond-true _ _ _ (eq-eqb (i % 4) 0 divides))
 
-turned_other : (i : ℕ) (t : List ℕ) → (i % 4 ≢ 0) → t ≡ turned 4 i t
+pub turned_other : (i : ℕ) (t : List ℕ) → (i % 4 ≢ 0) → t ≡ turned 4 i t
 turned_other i t not = sym (cond-false _ _ _ (ne_eqb (i % 4) 0 not))
 
 -- a word after the first four, from those before it
@@ -139,3 +139,16 @@ next_key k n j fits =
     let third = other 2 (omega arith) (omega arith) in
     let fourth = other 3 (omega arith) (omega arith) in
     cc
+
+-- one word more, put into its place behind those before it
+pub one_more : (k new : List ℕ) (w : List (List ℕ)) (i : ℕ) → 4 ≤ i → i < length w → take i w ≡ expanded 4 k (i - 4)
+    → new ≡ get_or w (i - 4) [] ⊕ turned 4 i (slice_index_or w (i - 1) []) → take (i + 1) (slice_set w i new) ≡ expanded 4 k (i + 1 - 4)
+unfolding expanded next
+one_more k new w i le lt before is =
+    let e = expanded 4 k (i - 4) in
+    let at : (j : ℕ) → j < i → slice_index_or w j [] ≡ get_or e j [] = λ j h. sym (get_or-take i w j [] h) ∙ ap (λ l. get_or l j []) before in
+    let here : 4 + (i - 4) ≡ i = omega arith in
+    let on : suc (i - 4) ≡ i + 1 - 4 = omega arith in
+    take_more_set w i new lt
+    ∙ ap₂ (λ l x. l ++ (x ∷ [])) before (is ∙ ap₂ (λ v t. v ⊕ turned 4 i t) (at (i - 4) (omega arith)) (at (i - 1) (omega arith)) ∙ ap (next 4 e) (sym here))
+    ∙ ap (expanded 4 k) on
