@@ -44,6 +44,7 @@ pub fn encode(bytes: &[u8], out: &mut [u8]) -> Result<usize, TooShort>
     if out.len() / 2 < bytes.len() {
         return Err(TooShort);
     }
+    // by places in `out`: what is written through pieces of a slice, no contract says of the slice
     for (i, byte) in bytes.iter().enumerate() {
         out[2 * i..2 * i + 2].copy_from_slice(&digits(*byte));
     }

@@ -1,4 +1,5 @@
-// A block put into its place in a run of bytes, counted from 0.
+// A block put into its place in a run of bytes, counted from 0. By its place, since no contract says what a slice ends as
+// whose pieces were written through `as_chunks_mut`.
 ghost use Rattle.std.specs.Prelude.{◌≡◌, ◌+◌, ◌*◌, ◌≤◌, ◌++◌, length, take, drop};
 
 use octets::block::Block;
