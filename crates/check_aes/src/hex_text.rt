@@ -15,7 +15,7 @@ fn digits(block: Block) -> [u8; 32]
     ensures hexadecimal { Digits result }
 {
     let mut digits = [0; 32];
-    let _ = hex::encode(&block, &mut digits);
+    hex::encode(&block, &mut digits).unwrap();
     digits
 }
 

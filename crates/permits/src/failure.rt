@@ -21,6 +21,7 @@ pub enum Failure {
     Io(#[from] io::Error),
 }
 
+// Memory that runs out is told as an `io::Error` has it; `#[from]` would make a case of its own.
 impl From<AllocError> for Failure {
     fn from(error: AllocError) -> Failure {
         Failure::Io(error.into())

@@ -10,6 +10,7 @@ pub(crate) fn pad(rest: &[u8]) -> Block
     ensures { result ≡ rest.now ++ replicate (16 - length rest.now) (16 - length rest.now) }
 {
     let count = rest.len();
+    // the cast is proved to lose nothing, which `try_from` would test again
     let mut block = [(16 - count) as u8; 16];
     block[0..count].copy_from_slice(rest);
     block

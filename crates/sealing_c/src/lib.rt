@@ -24,6 +24,7 @@ fn answer<R: Refusal + Drop>(outcome: Result<usize, R>) -> i64
     ensures { result ≡ answered R.Refusal.numbered outcome }
 {
     match outcome {
+        // the cast is proved to lose nothing, which `try_from` would test again
         Ok(count) => count as i64,
         Err(refusal) => -i64::from(refusal.number()),
     }

@@ -1,4 +1,6 @@
-use Rattle.std.proofs.Common.{◌≡◌, ℕ, ◌*◌, List, replicate, Result, sym, ap, ◌∙◌, subst, rules}
+use Rattle.std.proofs.Common.{◌≡◌, ℕ, ◌*◌, List, replicate, Result, sym, ap, ◌∙◌, subst, arith, rules}
+use Rattle.std.proofs.lemmas.Grind.{common_steps}
+use Rattle.std.proofs.lemmas.Bool.Decides.{nat_tests}
 use Rattle.octets.specs.Bytes.{Bytes}
 use Rattle.octets.specs.Hex.{hex, Digits}
 use Rattle.octets.specs.Output.{Writes, fitted}
@@ -10,6 +12,9 @@ use Rattle.check_aes.proofs.hex_text.digits.Goals as goal
 -- 32 places hold the digits of a block, and nothing else
 whole : (r : Result ℕ TooShort) (bytes out : List ℕ) → Bytes 16 bytes → Writes (fitted (hex bytes) 32) r (replicate 32 0) out → out ≡ hex bytes
 whole r bytes out block = fills r (hex bytes) (replicate 32 0) out (length-hex bytes ∙ ap (λ n. 2 * n) block.long)
+
+pub unwrap-requires : goal.unwrap-requires
+unwrap-requires c = grind (arith, common_steps, nat_tests, length-hex)
 
 pub returns : goal.returns
 returns c =
