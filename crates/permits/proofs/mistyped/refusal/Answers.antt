@@ -3,9 +3,6 @@ use Rattle.user_permit.specs.Check.{Checked}
 use Rattle.permits.proofs.OneCharacter.{given_away}
 use Rattle.permits.proofs.mistyped.refusal.Goals as goal
 
-pub unwrap_err-requires : goal.unwrap_err-requires
-unwrap_err-requires c = c.check.ensures.altered _ c.args.permit.now.lawful c.mistype.ensures.altered
-
 pub returns : goal.returns
 returns c =
     given_away _ _ c.args.permit.now.lawful c.mistype.ensures.value _ (subst (Checked c.mistype.result) c.unwrap_err.ensures c.check.ensures.answer)
