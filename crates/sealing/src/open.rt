@@ -7,7 +7,7 @@ ghost use Rattle.sealing.specs.Damage.{Withstands};
 ghost use Rattle.sealing.specs.Open.{is_sealed_length, opening, Recovers, open_number, open_words};
 ghost use Rattle.sealing.specs.declared.open.OpenRefusal.TheVariants.{Output};
 
-use crate::blocks;
+use crate::blocks::store;
 use crate::padding::padding_of;
 use crate::values::DatasetKey;
 use cipher::block_cipher::BlockCipher;
@@ -46,13 +46,13 @@ impl fmt::Display for OpenRefusal {
     ghost output = { λ e. Some (open_words e) };
 
     fn fmt<W: fmt::Write>(&self, f: &mut fmt::Formatter<W>) -> fmt::Result {
-        match self {
-            OpenRefusal::Length => f.pad(
-                "a sealed dataset has 32 to 10485792 bytes, in whole blocks of 16",
-            ),
-            OpenRefusal::Padding => f.pad("what was opened does not end in good padding"),
-            OpenRefusal::Output(_) => f.pad("the output has no room for the dataset"),
-        }
+        f.pad(match self {
+            OpenRefusal::Length => {
+                "a sealed dataset has 32 to 10485792 bytes, in whole blocks of 16"
+            }
+            OpenRefusal::Padding => "what was opened does not end in good padding",
+            OpenRefusal::Output(_) => "the output has no room for the dataset",
+        })
     }
 }
 
@@ -90,13 +90,15 @@ fn open_by<C: BlockCipher>(cipher: &C, sealed: &[u8], out: &mut [u8]) -> Result<
     let last = plain_block(cipher, &blocks[whole], &blocks[whole + 1]);
     let padding = padding_of(&last).ok_or(OpenRefusal::Padding)?;
     let rest = 16 - padding;
-    room_for(16 * whole + rest, out)?;
+    let count = 16 * whole + rest;
+    room_for(count, out)?;
+    // the block before is `blocks[i]`, which a pair of neighbours would only name again
     for (i, block) in blocks[1..=whole].iter().enumerate() {
         let plain = plain_block(cipher, &blocks[i], block);
-        blocks::store(out, i, &plain);
+        store(out, i, &plain);
     }
-    out[16 * whole..16 * whole + rest].copy_from_slice(&last[0..rest]);
-    Ok(16 * whole + rest)
+    out[16 * whole..count].copy_from_slice(&last[0..rest]);
+    Ok(count)
 }
 
 pub fn open_with_key<C: BlockCipher + Drop>(

@@ -1,15 +1,16 @@
 // Sealing a dataset.
 ghost use Rattle.std.specs.Prelude.{◌≡◌, length, take, IfOk, if◌then◌else◌, Some, None, nat_le};
+ghost use Rattle.octets.specs.Bytes.{◌⊕◌};
 ghost use Rattle.octets.specs.Output.{WritesSuch};
 ghost use Rattle.sealing.specs.Seal.{Sealed, Distinct, Examples, limit, sealed_length, seal_refused, seal_number, seal_words};
 ghost use Rattle.sealing.specs.declared.seal.SealRefusal.TheVariants.{Output};
 
-use crate::blocks;
+use crate::blocks::store;
 use crate::padding::pad;
 use crate::values::{Beginning, DatasetKey};
 use cipher::block_cipher::BlockCipher;
 use cipher::keyed::keyed;
-use octets::block::xor;
+use octets::block::{Block, xor};
 use octets::output::{TooShort, room_for};
 use octets::refusal::Refusal;
 use std::fmt;
@@ -40,10 +41,10 @@ impl fmt::Display for SealRefusal {
     ghost output = { λ e. Some (seal_words e) };
 
     fn fmt<W: fmt::Write>(&self, f: &mut fmt::Formatter<W>) -> fmt::Result {
-        match self {
-            SealRefusal::TooLong => f.pad("a dataset has at most 10485760 bytes"),
-            SealRefusal::Output(_) => f.pad("the output has no room for the sealed bytes"),
-        }
+        f.pad(match self {
+            SealRefusal::TooLong => "a dataset has at most 10485760 bytes",
+            SealRefusal::Output(_) => "the output has no room for the sealed bytes",
+        })
     }
 }
 
@@ -65,6 +66,13 @@ pub fn sealed_length(count: usize) -> Option<usize>
     Some(32 + count - count % 16)
 }
 
+// The sealed block of a plain one, chained to the block before it.
+fn sealed_block<C: BlockCipher>(cipher: &C, before: &Block, plain: &Block) -> Block
+    ensures { result ≡ C.enc (C.held cipher.now) (plain.now ⊕ before.now) }
+{
+    cipher.encipher(xor(*plain, *before))
+}
+
 // Writes the dataset sealed: a leading block and the padded dataset, each block chained to the sealed one before.
 pub fn seal<C: BlockCipher + Drop>(
     key: &DatasetKey,
@@ -80,15 +88,15 @@ pub fn seal<C: BlockCipher + Drop>(
     let count = sealed_length(dataset.len()).ok_or(SealRefusal::TooLong)?;
     room_for(count, out)?;
     let cipher = keyed::<C>(&key.0);
-    let mut before = cipher.encipher(xor(beginning.lead.0, beginning.start.0));
-    blocks::store(out, 0, &before);
+    let mut before = sealed_block(&cipher, &beginning.start.0, &beginning.lead.0);
+    store(out, 0, &before);
     let (whole, rest) = dataset.as_chunks::<16>();
     for (i, block) in whole.iter().enumerate() {
-        let sealed = cipher.encipher(xor(*block, before));
-        blocks::store(out, i + 1, &sealed);
+        let sealed = sealed_block(&cipher, &before, block);
+        store(out, i + 1, &sealed);
         before = sealed;
     }
-    let last = cipher.encipher(xor(pad(rest), before));
-    blocks::store(out, whole.len() + 1, &last);
+    let last = sealed_block(&cipher, &before, &pad(rest));
+    store(out, whole.len() + 1, &last);
     Ok(count)
 }

@@ -1,4 +1,4 @@
-use Rattle.std.proofs.Common.{◌≡◌, ℕ, suc, ◌+◌, ◌-◌, ◌*◌, ◌/◌, ◌≤◌, List, [], ◌++◌, length, get_or, take, drop, replicate, Some, sym, refl, ap, ◌∙◌, ap₂, subst, arith, rules}
+use Rattle.std.proofs.Common.{◌≡◌, ℕ, suc, ◌+◌, ◌-◌, ◌*◌, ◌/◌, ◌≤◌, List, [], ◌++◌, length, get_or, take, drop, replicate, Some, sym, refl, ap, ◌∙◌, subst, arith, rules}
 use Rattle.octets.specs.Bytes.{Small, ◌⊕◌}
 use Rattle.cipher.specs.Keyed.{laws}
 use Rattle.sealing.specs.Blocks.{block}
@@ -11,21 +11,21 @@ use Rattle.sealing.proofs.seal.seal.Goals as goal
 
 pub loop-i-init : goal.loop-i-init
 loop-i-init g c =
-    let long : length c.encipher-before.result ≡ 16 = search rules in
-    (chain_none _ _ _ _ (ap (block 1) c.store.ensures ∙ block_at 0 [] c.encipher-before.result (drop 16 c.args.out.now) refl long), search rules)
+    let long : length c.sealed_block-before.result ≡ 16 = search rules in
+    (chain_none _ _ _ _ (ap (block 1) c.store.ensures ∙ block_at 0 [] c.sealed_block-before.result (drop 16 c.args.out.now) refl long), search rules)
 
 pub loop-i-preserved : goal.loop-i-preserved
 loop-i-preserved g c =
     let f = g.C.BlockCipher.enc (g.C.BlockCipher.held c.keyed-cipher.result) in
-    let long : length c.encipher-sealed.result ≡ 16 = search rules in
+    let long : length c.sealed_block-sealed.result ≡ 16 = search rules in
     let room : 16 * (c.loop-i.i + 1) + 16 ≤ length c.loop-i.out = search rules in
     let dataset = c.args.dataset.now in
     let i = c.loop-i.i in
     let piece : get_or c.as_chunks.result.0.now i [] ≡ block (suc i) (padded dataset) =
     chunk_is dataset c.as_chunks.result.0.now i c.as_chunks.ensures.front (omega (arith, c.as_chunks.ensures.front_len)) ∙ sym (whole_block dataset i (omega (arith, c.as_chunks.ensures.front_len))) in
-    let is : c.encipher-sealed.result ≡ f (block (suc i) (padded dataset) ⊕ c.loop-i.before) =
-    c.encipher-sealed.ensures ∙ ap f (c.xor-in-loop-i.ensures ∙ ap (λ x. x ⊕ c.loop-i.before) piece) in
-    (chain_more f _ _ _ c.loop-i.i c.loop-i.before c.loop-i.out c.encipher-sealed.result room long c.store-in-loop-i.new.out c.store-in-loop-i.ensures c.loop-i.invariant.0 is, search rules)
+    let is : c.sealed_block-sealed.result ≡ f (block (suc i) (padded dataset) ⊕ c.loop-i.before) =
+    c.sealed_block-sealed.ensures ∙ ap (λ x. f (x ⊕ c.loop-i.before)) piece in
+    (chain_more f _ _ _ c.loop-i.i c.loop-i.before c.loop-i.out c.sealed_block-sealed.result room long c.store-in-loop-i.new.out c.store-in-loop-i.ensures c.loop-i.invariant.0 is, search rules)
 
 -- the block in which the dataset ends, made of the rest behind its whole blocks
 end_is : (dataset rest b : List ℕ) (n : ℕ) → n ≡ length dataset / 16 → rest ≡ drop (length dataset / 16 * 16) dataset → b ≡ rest ++ replicate (16 - length rest) (16 - length rest) → b ≡ block (suc n) (padded dataset)
@@ -42,17 +42,17 @@ returns g c =
     let dataset = c.args.dataset.now in
     let before = c.args.out.now in
     let n = c.loop-i.i in
-    let b = c.encipher-last.result in
+    let b = c.sealed_block-last.result in
     let count = c.in_ok-count.count in
     let out = c.store-2.new.out in
     let held = c.keyed-cipher.ensures.kept in
-    let head = c.encipher-before.ensures ∙ ap₂ E held c.xor.ensures in
+    let head = c.sealed_block-before.ensures ∙ ap (λ k. E k (lead ⊕ start)) held in
     let end : n ≡ length c.as_chunks.result.0.now = omega (arith, c.as_chunks.ensures.front_len) in
     let whole : n ≡ length dataset / 16 = end ∙ c.as_chunks.ensures.front_len in
     let counted : Some count ≡ c.sealed_length.result = search rules in
     let told = within_limit (length dataset) count (counted ∙ c.sealed_length.ensures) in
     let fits : count ≤ length before = search rules in
-    let sixteen : length c.encipher-before.result ≡ 16 = search rules in
+    let sixteen : length c.sealed_block-before.result ≡ 16 = search rules in
     let last_sixteen : length b ≡ 16 = search rules in
     let long : length c.loop-i.out ≡ length before = search rules in
     let long_after : length out ≡ length before = search rules in
@@ -61,7 +61,7 @@ returns g c =
     let room : 16 * (n + 1) + 16 ≤ length c.loop-i.out = omega (arith, told.1, whole) in
     let put = subst (λ m. out ≡ take (16 * (m + 1)) c.loop-i.out ++ (b ++ drop (16 * (m + 1) + 16) c.loop-i.out)) (sym end) c.store-2.ensures in
     let is : b ≡ f (block (suc n) (padded dataset) ⊕ c.loop-i.before) =
-    c.encipher-last.ensures ∙ ap f (c.xor-2.ensures ∙ ap (λ x. x ⊕ c.loop-i.before) (end_is dataset c.as_chunks.result.1.now c.pad.result n whole c.as_chunks.ensures.back c.pad.ensures)) in
+    c.sealed_block-last.ensures ∙ ap (λ x. f (x ⊕ c.loop-i.before)) (end_is dataset c.as_chunks.result.1.now c.pad.result n whole c.as_chunks.ensures.back c.pad.ensures) in
     let chain = chain_more f _ _ _ n c.loop-i.before c.loop-i.out b room last_sixteen out put c.loop-i.invariant.0 is in
     let all : n + 1 ≡ length dataset / 16 + 1 = ap (λ m. m + 1) whole in
     record {
