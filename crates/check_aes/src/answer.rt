@@ -1,13 +1,10 @@
 // What is printed for a line: the block enciphered, a tab and the block deciphered, or that the line is no vector.
-ghost use Rattle.std.specs.Prelude.{◌≡◌};
 ghost use Rattle.check_aes.specs.Answer.{row as row_of};
 
 use crate::hex_text::HexText;
-use crate::repeat::repeat;
-use crate::vector;
+use crate::{repeat, vector};
 use cipher::block_cipher::BlockCipher;
 use lines::report::Row;
-use octets::block::Block;
 use std::alloc::{AllocError, Global};
 use std::marker::PhantomData;
 
@@ -21,14 +18,8 @@ impl<C: BlockCipher + Drop> Row for Answers<C> {
             return String::from_str(heap, "unfit\n");
         };
         let cipher = C::new(&vector.key);
-        let encipher = |block: Block| -> Block
-            ensures { result ≡ C.BlockCipher.enc (C.BlockCipher.held cipher) block }
-        { cipher.encipher(block) };
-        let decipher = |block: Block| -> Block
-            ensures { result ≡ C.BlockCipher.dec (C.BlockCipher.held cipher) block }
-        { cipher.decipher(block) };
-        let enciphered = HexText(repeat(vector.count, vector.block, encipher));
-        let deciphered = HexText(repeat(vector.count, vector.block, decipher));
+        let enciphered = HexText(repeat::encipher(&cipher, vector.count, vector.block));
+        let deciphered = HexText(repeat::decipher(&cipher, vector.count, vector.block));
         format!(in heap; "{enciphered}\t{deciphered}\n")
     }
 }

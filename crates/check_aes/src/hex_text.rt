@@ -10,7 +10,7 @@ use std::str::from_utf8_unchecked;
 #[derive(Drop)]
 pub struct HexText(pub Block);
 
-fn digits(block: Block) -> [u8; 32]
+fn digits_of(block: Block) -> [u8; 32]
     ensures value { result ≡ hex_of block }
     ensures hexadecimal { Digits result }
 {
@@ -23,7 +23,7 @@ impl fmt::Display for HexText {
     ghost output = { λ t. Some (hex_of t.0) };
 
     fn fmt<W: fmt::Write>(&self, f: &mut fmt::Formatter<W>) -> fmt::Result {
-        let digits = digits(self.0);
+        let digits = digits_of(self.0);
         // digits are ASCII
         f.pad(unsafe { from_utf8_unchecked(&digits) })
     }

@@ -7,7 +7,7 @@ use Rattle.octets.specs.Output.{Writes, fitted}
 use Rattle.octets.specs.declared.output.TooShort.{TooShort}
 use Rattle.octets.proofs.Digits.{length-hex, hex_is_digits}
 use Rattle.octets.proofs.Fits.{fills}
-use Rattle.check_aes.proofs.hex_text.digits.Goals as goal
+use Rattle.check_aes.proofs.hex_text.digits_of.Goals as goal
 
 -- 32 places hold the digits of a block, and nothing else
 whole : (r : Result ℕ TooShort) (bytes out : List ℕ) → Bytes 16 bytes → Writes (fitted (hex bytes) 32) r (replicate 32 0) out → out ≡ hex bytes
