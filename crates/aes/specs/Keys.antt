@@ -1,4 +1,5 @@
--- An expanded key: how many words it has, and that each is four bytes. Assumes nothing.
+-- An expanded key: how many words it has, that each is four bytes, and its round keys, each from the one before.
+-- Assumes nothing.
 use Rattle.std.specs.Prelude.{◌≡◌, ℕ, zero, suc, ◌+◌, ◌-◌, ◌*◌, ◌/◌, ◌%◌, ◌<◌, ◌≤◌, Bool, true, false, cond, ◌&&◌, List, [], ◌∷◌, ◌++◌, map, length, get_or, take, ◌==◌, ◌≢◌, nat_lt, slice_index, slice_index_or, slice_set}
 use Rattle.std.proofs.Common.{refl, sym, ap, ap₂, ◌∙◌}
 use Rattle.std.proofs.Math.Logic.{⊎_elim}
@@ -140,7 +141,7 @@ next_key k n j fits =
     let fourth = other 3 (omega arith) (omega arith) in
     cc
 
--- one word more, put into its place behind those before it
+-- and its words, each from those before: what one more of them, put into its place, makes of an array
 pub one_more : (k new : List ℕ) (w : List (List ℕ)) (i : ℕ) → 4 ≤ i → i < length w → take i w ≡ expanded 4 k (i - 4)
     → new ≡ get_or w (i - 4) [] ⊕ turned 4 i (slice_index_or w (i - 1) []) → take (i + 1) (slice_set w i new) ≡ expanded 4 k (i + 1 - 4)
 unfolding expanded next

@@ -14,7 +14,7 @@ use octets::block::Block;
 
 const ROUNDS: usize = 10;
 
-// A key with those of the rounds that it is expanded to, once for all blocks.
+// A key, and the round keys that it is expanded to, once for all blocks.
 #[derive(Drop)]
 pub struct Aes128 {
     key: Block,
@@ -56,7 +56,7 @@ impl BlockCipher for Aes128 {
         ensures value { result ≡ enc_block self.now.key block }
         ensures examples { Examples }
     {
-        // by places: a pattern with `middle @ ..` behind a reference gets no proof
+        // by places, here and below: a pattern of an array behind a reference gets no proof
         let mut s = add_round_key(from_block(block), &self.round_keys[0]);
         for key in &self.round_keys[1..ROUNDS] {
             s = add_round_key(mix_columns(shift_rows(sub_bytes(s))), key);

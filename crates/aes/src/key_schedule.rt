@@ -49,6 +49,7 @@ pub(crate) fn expand(key: &Block) -> [RoundKey; ROUND_KEYS]
         columns: from_block(*key),
     };
     let mut keys = [first; ROUND_KEYS];
+    // by places, since a key is made of the one before it in the array that is written
     for (i, constant) in POWERS.iter().enumerate() {
         keys[i + 1] = next_round_key(keys[i], *constant);
     }

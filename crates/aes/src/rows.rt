@@ -4,7 +4,7 @@ ghost use Rattle.aes.specs.Steps.{shift_rows, inv_shift_rows};
 
 use crate::state::{Column, State};
 
-// A column of a turned state has a byte of each.
+// A column of a turned state has a byte of each column.
 fn diagonal(a: Column, b: Column, c: Column, d: Column) -> Column
     ensures { result ≡ slice_index a 0 ∷ slice_index b 1 ∷ slice_index c 2 ∷ slice_index d 3 ∷ [] }
 {

@@ -44,7 +44,8 @@ const INV_S_BOX: [u8; 256] = [
     0x17, 0x2b, 0x04, 0x7e, 0xba, 0x77, 0xd6, 0x26, 0xe1, 0x69, 0x14, 0x63, 0x55, 0x21, 0x0c, 0x7d,
 ];
 
-// One index in each box: a function of the box and the byte would be as long as both.
+// What stands twice from here on is one index, and the name of a step: a function that is given the box as well would be
+// as long as both.
 fn sub_byte(b: u8) -> u8
     ensures { result ≡ s_box b }
 {

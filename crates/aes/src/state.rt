@@ -29,7 +29,7 @@ pub(crate) fn to_block(s: State) -> Block
 pub(crate) fn add_round_key(s: State, key: &RoundKey) -> State
     ensures { result ≡ add_round_key s key.now.columns }
 {
-    // by a pattern: of `array::from_fn` it stays open what its closure has captured
+    // by patterns: the proof over an `array::from_fn` that captures both states did not close
     let [a, b, c, d] = s;
     let [k, l, m, n] = key.columns;
     [xor(a, k), xor(b, l), xor(c, m), xor(d, n)]
