@@ -8,7 +8,7 @@ use std::io;
 use std::io::Read;
 use verdict::Verdicts;
 
-// Reading and writing stay with each program: no contract could say what a shared function writes.
+// Reading and writing stay with each program: a function for both would be as long, and put the runtime into the library.
 fn main(rt: HostRuntime) -> io::Result<()> {
     let mut input = Vec::new(rt.alloc());
     rt.stdin().read_to_end(&mut input)?;

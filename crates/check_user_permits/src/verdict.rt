@@ -7,7 +7,7 @@ use octets::refusal::Refusal;
 use std::alloc::{AllocError, Global};
 use user_permit::check::check;
 
-// The number of a line's refusal, and 0 where the line is a user permit.
+// The number of a line's refusal, and 0 where the line is a user permit, as they are printed.
 pub fn verdict(line: &[u8]) -> u8
     ensures { result ≡ verdict_of line.now }
 {

@@ -11,15 +11,15 @@ pub const USAGE: &str = "usage: permits
        permits help
            print this";
 
-// What is made, of which files.
-#[derive(Drop)]
+// The user permit that is to be made: its manufacturer ID, and the files of the key and of the hardware ID.
+#[derive(Clone, Copy, Debug)]
 pub struct Making<'a> {
     pub id: &'a str,
     pub key_file: &'a str,
     pub hardware_file: &'a str,
 }
 
-#[derive(Drop)]
+#[derive(Clone, Copy, Debug)]
 pub enum Command<'a> {
     Story,
     Help,

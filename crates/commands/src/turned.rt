@@ -4,7 +4,8 @@ ghost use Rattle.commands.specs.Turned.{turned_line};
 
 use std::fmt;
 
-#[derive(Clone, Copy)]
+// Two cases with the same counts: a kind beside the counts would be one type more.
+#[derive(Clone, Copy, Debug)]
 pub enum Turned {
     Sealed { taken: usize, given: usize },
     Opened { taken: usize, given: usize },

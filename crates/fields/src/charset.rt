@@ -1,4 +1,4 @@
-// Sets of characters, and texts that keep to one.
+// Sets of characters, and texts that keep to one. A set is a type, so that a contract can name it.
 ghost use Rattle.std.specs.Prelude.{◌≡◌, ℕ, Bool};
 ghost use Rattle.octets.specs.Bytes.{every};
 

@@ -2,7 +2,7 @@
 ghost use Rattle.std.specs.Prelude.{◌≡◌, ◌<◌, ◌∷◌, length};
 ghost use Rattle.lines.specs.Lines.{lines, Cut};
 
-// The first line of a text, and what follows it; of an empty text nothing twice.
+// The first line of a text, and what follows it. Of an empty text it is nothing twice, so that no caller has a case more.
 pub fn first_line(text: &[u8]) -> (&[u8], &[u8])
     ensures whole { Cut text.now result.0.now result.1.now }
     ensures first { 0 < length text.now → lines text.now ≡ result.0.now ∷ lines result.1.now }
@@ -14,7 +14,7 @@ pub fn first_line(text: &[u8]) -> (&[u8], &[u8])
     }
 }
 
-// The lines of a text, from the first on.
+// The lines of a text, from the first on. Of those that `split_inclusive` gives no contract says which they are.
 #[derive(Drop)]
 pub(crate) struct Lines<'a> {
     rest: &'a [u8],

@@ -1,4 +1,5 @@
-// Upper-case hexadecimal text.
+// Upper-case hexadecimal text. What is written goes by places: of a slice or an array that was written through
+// `as_chunks_mut`, or through an adapter of `iter_mut`, no contract says what it holds.
 ghost use Rattle.std.specs.Prelude.{◌≡◌, ◌/◌, ◌%◌, ◌<◌, [], ◌∷◌, length};
 ghost use Rattle.octets.specs.Hex.{digit as digit_of, hex as hex_of, Valued, Paired, Decoded};
 ghost use Rattle.octets.specs.Output.{Writes, fitted};
@@ -44,7 +45,6 @@ pub fn encode(bytes: &[u8], out: &mut [u8]) -> Result<usize, TooShort>
     if out.len() / 2 < bytes.len() {
         return Err(TooShort);
     }
-    // by places in `out`: what is written through pieces of a slice, no contract says of the slice
     for (i, byte) in bytes.iter().enumerate() {
         out[2 * i..2 * i + 2].copy_from_slice(&digits(*byte));
     }

@@ -1,5 +1,6 @@
 // The caller's sixteen working bytes, lent to a call that recovers a secret. The guard's end writes zeros over them,
-// on every way out of the call. That they are still the caller's is said at each call, since no type can say it.
+// on every way out of the call. That they are still the caller's is said at each call: it is a fact of the call,
+// and not of the value.
 ghost use Rattle.std.specs.Prelude.{◌≡◌, replicate};
 
 use crate::block::Block;

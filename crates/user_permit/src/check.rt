@@ -74,7 +74,7 @@ pub fn check(text: &[u8]) -> Result<UserPermit, CheckRefusal>
 {
     let text = <[u8; 46]>::try_from(text).map_err(|_| CheckRefusal::Length)?;
     let parts = Parts::read(&text).ok_or(CheckRefusal::Character)?;
-    // of `[..32]` the bound stays open
+    // of an array, `[..32]` leaves a bound open that `[0..32]` does not
     if parts.checksum != crc32(&text[0..32]).to_be_bytes() {
         return Err(CheckRefusal::Checksum);
     }

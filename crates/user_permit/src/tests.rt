@@ -5,7 +5,7 @@ use crate::secrets::{HardwareId, ManufacturerKey};
 use cipher::demonstration::Demonstration;
 use octets::refusal::Refusal;
 
-// The number of a refusal, and 0 where there is none.
+// The number of a refusal, and 0 where there is none, as the checking program prints them.
 fn number<T: Drop, R: Refusal + Drop>(answer: Result<T, R>) -> u8 {
     answer.err().map_or(0, |refusal| refusal.number())
 }
