@@ -11,11 +11,12 @@ pub struct Vector {
     pub block: Block,
 }
 
-// The count's four digits, the key's 32 and the block's 32, with a space between them.
+// The count's four digits, the key's 32 and the block's 32, with a space between them. By name, as every text is read.
 pub fn read(line: &[u8]) -> Option<Vector>
     ensures { Reads line.now result }
 {
-    // by the places that the form names: cut off one after another, each field would want a cut and a contract more
+    // by the places that the form names: one length covers them all, where cutting off one field after another would test
+    // the length of each
     if line.len() != 70 || line[4] != b' ' || line[37] != b' ' {
         return None;
     }

@@ -13,7 +13,7 @@ use std::fmt;
 // The bytes of the longest key file.
 pub const LIMIT: u32 = 33;
 
-// The file holds something else.
+// The file holds something else. A type of its own, which is what a `?` goes by.
 #[derive(Clone, Copy, Debug, PartialEq, Eq)]
 pub struct KeyFileFault;
 
@@ -77,6 +77,7 @@ fn without_line_feed(text: &[u8]) -> &[u8]
     text.strip_suffix(b"\n").unwrap_or(text)
 }
 
+// By name, as every text is read: at a call that says more than a conversion.
 pub fn read(text: &[u8]) -> Result<Block, KeyFileFault>
     ensures { ReadsKey text.now result }
 {

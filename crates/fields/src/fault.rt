@@ -1,4 +1,4 @@
-// A field that breaks its rule.
+// A field that breaks its rule. A type of its own, which is what a `?` goes by.
 ghost use Rattle.std.specs.Prelude.{Some};
 ghost use Rattle.fields.specs.Fault.{fault_number, fault_words};
 

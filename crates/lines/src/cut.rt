@@ -2,7 +2,8 @@
 ghost use Rattle.std.specs.Prelude.{◌≡◌, ◌<◌, ◌∷◌, length};
 ghost use Rattle.lines.specs.Lines.{lines, Cut};
 
-// The first line of a text, and what follows it. Of an empty text it is nothing twice, so that no caller has a case more.
+// The first line of a text, and what follows it. It has an answer for every text, so no `Option`: of an empty one, nothing
+// twice.
 pub fn first_line(text: &[u8]) -> (&[u8], &[u8])
     ensures whole { Cut text.now result.0.now result.1.now }
     ensures first { 0 < length text.now → lines text.now ≡ result.0.now ∷ lines result.1.now }

@@ -5,7 +5,7 @@ ghost use Rattle.octets.specs.Output.{Writes, room, fitted, short_number, short_
 use crate::refusal::Refusal;
 use std::fmt;
 
-// The output has fewer places than the result has bytes.
+// The output has fewer places than the result has bytes. A type of its own, which is what a `?` goes by.
 #[derive(Clone, Copy, Debug, PartialEq, Eq)]
 pub struct TooShort;
 

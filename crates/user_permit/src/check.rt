@@ -54,7 +54,7 @@ struct Parts {
 }
 
 impl Parts {
-    // The parts of a text, if each character is in its set.
+    // The parts of a text, if each character is in its set. By name, as every text is read.
     fn read(text: &[u8; 46]) -> Option<Parts>
         ensures { Parted text.now result }
     {

@@ -10,7 +10,8 @@ use octets::block::Block;
 use octets::working::Working;
 
 impl UserPermit {
-    // Puts the hardware ID into the working buffer, which the guard's end wipes.
+    // Puts the hardware ID into the working buffer, which the guard's end wipes. That it is still the caller's (`lent`) is
+    // a fact of the call, and not of the value.
     pub fn recover<C: BlockCipher + Drop>(&self, key: &ManufacturerKey, working: &mut Working<'_>)
         ensures held { working.new.bytes.now ≡ hardware_id C.dec key.now.0 self.now.text }
         ensures lent { working.new.bytes.ghost_name ≡ working.old.bytes.ghost_name }
