@@ -62,7 +62,7 @@ impl<R: Refusal> fmt::Display for KeyFileOr<R> {
     }
 }
 
-// The call's own refusal enters by its variant: a conversion from every `R` would overlap this one.
+// The conversion of a call's own refusal stands beside the call: one from every `R` would overlap this one.
 impl<R> From<KeyFileFault> for KeyFileOr<R> {
     ghost from_gives = { λ fault r. r ≡ KeyFile fault };
 

@@ -1,5 +1,7 @@
 // A user permit from a manufacturer ID and two key files.
+ghost use Rattle.std.specs.Prelude.{◌≡◌};
 ghost use Rattle.commands.specs.Make.{Makes};
+ghost use Rattle.commands.specs.declared.key_file.KeyFileOr.TheVariants.{Call};
 
 use crate::key_file;
 use crate::key_file::KeyFileOr;
@@ -10,6 +12,14 @@ use user_permit::permit::UserPermit;
 use user_permit::secrets::{HardwareId, ManufacturerKey};
 
 pub type NotMade = KeyFileOr<MakeRefusal>;
+
+impl From<MakeRefusal> for NotMade {
+    ghost from_gives = { λ refusal r. r ≡ Call refusal };
+
+    fn from(refusal: MakeRefusal) -> NotMade {
+        KeyFileOr::Call(refusal)
+    }
+}
 
 // What is made is always accepted by the check, so there is a permit to unwrap.
 pub fn user_permit<C: BlockCipher + Drop>(
@@ -22,6 +32,6 @@ pub fn user_permit<C: BlockCipher + Drop>(
     let key = ManufacturerKey(key_file::read(key_file)?);
     let hardware = HardwareId(key_file::read(hardware_file)?);
     let mut text = [0; 46];
-    make::<C>(id, &key, &hardware, &mut text).map_err(KeyFileOr::Call)?;
+    make::<C>(id, &key, &hardware, &mut text)?;
     Ok(check(&text).unwrap())
 }

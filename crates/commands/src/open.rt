@@ -1,7 +1,8 @@
 // A sealed dataset opened under the key of a key file.
-ghost use Rattle.std.specs.Prelude.{◌≤◌, length, IfOk};
+ghost use Rattle.std.specs.Prelude.{◌≡◌, ◌≤◌, length, IfOk};
 ghost use Rattle.octets.specs.Output.{Writes};
 ghost use Rattle.commands.specs.Open.{opening_with_file};
+ghost use Rattle.commands.specs.declared.key_file.KeyFileOr.TheVariants.{Call};
 
 use crate::key_file;
 use crate::key_file::KeyFileOr;
@@ -10,6 +11,14 @@ use sealing::open::{OpenRefusal, open_with_key};
 use sealing::values::DatasetKey;
 
 pub type NotOpened = KeyFileOr<OpenRefusal>;
+
+impl From<OpenRefusal> for NotOpened {
+    ghost from_gives = { λ refusal r. r ≡ Call refusal };
+
+    fn from(refusal: OpenRefusal) -> NotOpened {
+        KeyFileOr::Call(refusal)
+    }
+}
 
 // The key file is tried before the sealed bytes.
 pub fn open_with_file<C: BlockCipher + Drop>(
@@ -21,5 +30,5 @@ pub fn open_with_file<C: BlockCipher + Drop>(
     ensures within { IfOk result (λ n. n ≤ length out.old) }
 {
     let key = DatasetKey(key_file::read(key_file)?);
-    open_with_key::<C>(&key, sealed, out).map_err(KeyFileOr::Call)
+    Ok(open_with_key::<C>(&key, sealed, out)?)
 }

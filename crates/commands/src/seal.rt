@@ -4,6 +4,7 @@ ghost use Rattle.octets.specs.Output.{WritesSuch};
 ghost use Rattle.sealing.specs.Seal.{Sealed, sealed_length};
 ghost use Rattle.commands.specs.KeyFile.{key_in};
 ghost use Rattle.commands.specs.Seal.{not_sealed};
+ghost use Rattle.commands.specs.declared.key_file.KeyFileOr.TheVariants.{Call};
 
 use crate::key_file;
 use crate::key_file::KeyFileOr;
@@ -12,6 +13,14 @@ use sealing::seal::{SealRefusal, seal};
 use sealing::values::{Beginning, DatasetKey};
 
 pub type NotSealed = KeyFileOr<SealRefusal>;
+
+impl From<SealRefusal> for NotSealed {
+    ghost from_gives = { λ refusal r. r ≡ Call refusal };
+
+    fn from(refusal: SealRefusal) -> NotSealed {
+        KeyFileOr::Call(refusal)
+    }
+}
 
 // The key file is tried before the dataset.
 pub fn seal_with_file<C: BlockCipher + Drop>(
@@ -24,5 +33,5 @@ pub fn seal_with_file<C: BlockCipher + Drop>(
     ensures count { IfOk result (λ n. n ≡ sealed_length (length dataset.now)) }
 {
     let key = DatasetKey(key_file::read(key_file)?);
-    seal::<C>(&key, beginning, dataset, out).map_err(KeyFileOr::Call)
+    Ok(seal::<C>(&key, beginning, dataset, out)?)
 }

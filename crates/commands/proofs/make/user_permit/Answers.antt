@@ -1,11 +1,8 @@
-use Rattle.std.proofs.Common.{◌≡◌, Ok, IfOk, is_ok, length, replicate, refl, ap, ◌∙◌, subst, ap₂, arith, rules}
+use Rattle.std.proofs.Common.{◌≡◌, true, length, replicate, refl, ◌∙◌, subst, ap₂, arith, rules}
 use Rattle.std.proofs.lemmas.List.{take_all}
 use Rattle.std.proofs.lemmas.Bool.{and_from}
-use Rattle.octets.specs.Output.{Writes}
-use Rattle.user_permit.specs.Lawful.{Lawful, permit_text}
-use Rattle.user_permit.specs.Make.{making}
-use Rattle.commands.proofs.Mapped.{was_ok}
 use Rattle.user_permit.specs.Check.{Checked}
+use Rattle.user_permit.specs.Lawful.{Lawful, permit_text}
 use Rattle.user_permit.proofs.Accepting.{only_text}
 use Rattle.commands.proofs.Accepted.{accepted}
 use Rattle.commands.proofs.make.user_permit.Goals as goal
@@ -14,8 +11,7 @@ pub unwrap-requires : goal.unwrap-requires
 unwrap-requires g c =
     let out = c.make.new.out in
     let long : length out ≡ 46 = search rules in
-    let made : c.make.result ≡ Ok c.in_ok-map_err.field-0 = was_ok _ _ _ _ c.map_err.ensures.cases (c.in_ok-map_err.was {u = tt}) in
-    let lawful = subst Lawful (take_all 46 out (omega arith)) (c.make.ensures.lawful (ap is_ok made)) in
+    let lawful = subst Lawful (take_all 46 out (omega arith)) (c.in_ok-make.ensures.lawful (refl {a = true})) in
     accepted out c.check.result lawful c.check.ensures.answer
 
 pub returns : goal.returns
@@ -24,10 +20,8 @@ returns g c =
     let id = c.args.id.now in
     let key = c.in_ok-read.ensures in
     let hardware = c.in_ok-read-2.ensures in
-    let told = c.make.ensures in
-    let answer : c.make.result ≡ Ok c.in_ok-map_err.field-0 = was_ok _ _ _ _ c.map_err.ensures.cases (c.in_ok-map_err.was {u = tt}) in
-    let count : c.in_ok-map_err.field-0 ≡ 46 = subst (λ r. IfOk r (λ n. n ≡ 46)) answer told.count in
-    let made = only_text E id c.in_ok-read.field-0 c.in_ok-read-2.field-0 (replicate 46 0) c.make.new.out c.in_ok-map_err.field-0 (refl {a = 46}) count (subst (λ r. Writes (making E id c.in_ok-read.field-0 c.in_ok-read-2.field-0 46) r (replicate 46 0) c.make.new.out) answer told.written) in (
+    let told = c.in_ok-make.ensures in
+    let made = only_text E id _ _ (replicate 46 0) c.make.new.out c.in_ok-make.field-0 (refl {a = 46}) told.count told.written in (
       and_from _ _ key.0 hardware.0,
       made.0,
       (subst (Checked c.make.new.out) c.unwrap.ensures c.check.ensures.answer).1 ∙ made.1 ∙ ap₂ (λ k h. permit_text (E k h) id) key.1 hardware.1,
