@@ -1,7 +1,6 @@
--- A list cut into pieces of one length, and a piece put back. Assumes nothing.
-use Rattle.std.proofs.Common.{◌≡◌, ℕ, zero, suc, ◌+◌, ◌-◌, ◌*◌, ◌<◌, List, [], ◌++◌, get_or, take, drop, sym, ap, ◌∙◌, arith}
+-- A list cut into pieces of one length. Assumes nothing.
+use Rattle.std.proofs.Common.{◌≡◌, ℕ, zero, suc, ◌+◌, ◌*◌, ◌<◌, List, [], get_or, take, drop, sym, ap, ◌∙◌, arith}
 use Rattle.std.proofs.Math.Nat.{add_comm, mul-suc}
-use borrow.Rule.Slice.PartMut.{put_mid}
 use Rattle.std.proofs.lemmas.List.{drop-drop, get_or-take, get_or-drop}
 use Rattle.std.specs.Simd.{first_chunks}
 
@@ -17,9 +16,3 @@ module _ {X : Type 0} (n : ℕ) where
   pub in_chunk : (k : ℕ) (xs : List X) (cs : List (List X)) (i j : ℕ) (d : X) → cs ≡ first_chunks n k xs → i < k → j < n → get_or (get_or cs i []) j d ≡ get_or xs (n * i + j) d
   in_chunk k xs cs i j d so lt within =
       ap (λ l. get_or (get_or l i []) j d) so ∙ ap (λ c. get_or c j d) (chunk_at k xs i lt) ∙ get_or-take n (drop (n * i) xs) j d within ∙ get_or-drop (n * i) xs j d
-
-  -- other elements in the place of n of them
-  pub put_at : (at : ℕ) (xs ys : List X) → put_mid at (at + n - at) xs ys ≡ take at xs ++ (ys ++ drop (at + n) xs)
-  put_at at xs ys =
-      let wide : at + n - at ≡ n = omega arith in
-      ap (λ m. take at xs ++ (ys ++ drop m (drop at xs))) wide ∙ ap (λ l. take at xs ++ (ys ++ l)) (drop-drop n at xs)

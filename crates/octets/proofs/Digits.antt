@@ -2,8 +2,7 @@
 use Rattle.std.proofs.Common.{◌≡◌, ℕ, ◌+◌, ◌*◌, ◌/◌, ◌%◌, ◌<◌, true, List, [], ◌∷◌, ◌++◌, length, get_or, take, drop, set, sym, refl, ap, ◌∙◌, ap₂, append_assoc, arith}
 use Rattle.std.proofs.ByRecursion.{All-from_get_or}
 use Rattle.std.proofs.lemmas.Bool.{and_from}
-use Rattle.std.proofs.lemmas.List.{take_at, take_more, take_more_set, length-take-le}
-use Rattle.std.proofs.lemmas.Slice.{drop-append-drop}
+use Rattle.std.proofs.lemmas.List.{take_more, take_more_set, drop_more, set_at, length_push, length-take-le}
 use Rattle.std.proofs.lemmas.Bool.Decides.{nat_tests}
 use Rattle.std.specs.List.{AllByRecursion as All}
 use Rattle.octets.specs.Bytes.{every, Small}
@@ -80,17 +79,24 @@ hex_more bs t i b hb ht so high low =
     ∙ ap₂ (λ x y. x ++ y) so (ap₂ (λ h l. h ∷ l ∷ []) high low)
     ∙ sym (take_two_more t i ht)
 
+-- two writes, one after the other
+pub set_two : (p rest : List ℕ) (x y a b n : ℕ) → length p ≡ n → set (set (p ++ x ∷ y ∷ rest) n a) (n + 1) b ≡ p ++ a ∷ b ∷ rest
+set_two p rest x y a b n e =
+    ap (λ l. set l (n + 1) b) (set_at p x (y ∷ rest) a n e ∙ sym (append_assoc p (a ∷ []) (y ∷ rest)))
+    ∙ set_at (p ++ a ∷ []) y rest b (n + 1) (length_push p a ∙ ap (λ m. m + 1) e)
+    ∙ append_assoc p (a ∷ []) (b ∷ rest)
+
 -- the digits of one byte more, written over what stood there
-pub written_more : (bs o out : List ℕ) (i : ℕ) → i < length bs → out ≡ hex (take i bs) ++ drop (2 * i) o
-    → take (2 * i) out ++ ((digit (get_or bs i 0 / 16) ∷ digit (get_or bs i 0 % 16) ∷ []) ++ drop (2 * i + 2) out) ≡ hex (take (i + 1) bs) ++ drop (2 * (i + 1)) o
-written_more bs o out i lt so =
+pub written_more : (bs o : List ℕ) (i : ℕ) → i < length bs → 2 * i + 1 < length o → set (set (hex (take i bs) ++ drop (2 * i) o) (2 * i) (digit (get_or bs i 0 / 16))) (2 * i + 1) (digit (get_or bs i 0 % 16)) ≡ hex (take (i + 1) bs) ++ drop (2 * (i + 1)) o
+written_more bs o i hb ho =
     let b = get_or bs i 0 in
-    let two = digit (b / 16) ∷ digit (b % 16) ∷ [] in
     let front = hex (take i bs) in
+    let high = digit (b / 16) in
+    let low = digit (b % 16) in
     let long : length front ≡ 2 * i = length-hex (take i bs) ∙ ap (λ n. 2 * n) (length-take-le i bs (omega arith)) in
-    let next : 2 * i + 2 ≡ 2 * (i + 1) = omega arith in
-    ap (λ l. take (2 * i) l ++ (two ++ drop (2 * i + 2) l)) so
-    ∙ ap₂ (λ x y. x ++ (two ++ y)) (take_at front (drop (2 * i) o) (2 * i) long) (drop-append-drop (2 * i) o front (2 * i + 2) (omega arith) long)
-    ∙ ap (λ n. front ++ (two ++ drop n o)) next
-    ∙ sym (append_assoc front two (drop (2 * (i + 1)) o))
-    ∙ ap (λ l. l ++ drop (2 * (i + 1)) o) (sym (hex_push (take i bs) b) ∙ ap hex (sym (take_more bs i 0 lt)))
+    let twice : (2 * i + 1) + 1 ≡ 2 * (i + 1) = omega arith in
+    ap (λ l. set (set (front ++ l) (2 * i) high) (2 * i + 1) low) (drop_more o (2 * i) 0 (omega arith) ∙ ap (λ l. get_or o (2 * i) 0 ∷ l) (drop_more o (2 * i + 1) 0 ho))
+    ∙ set_two front (drop ((2 * i + 1) + 1) o) _ _ high low (2 * i) long
+    ∙ ap (λ n. front ++ high ∷ low ∷ drop n o) twice
+    ∙ sym (append_assoc front (high ∷ low ∷ []) (drop (2 * (i + 1)) o))
+    ∙ ap (λ l. l ++ drop (2 * (i + 1)) o) (sym (hex_push (take i bs) b) ∙ ap hex (sym (take_more bs i 0 hb)))

@@ -46,7 +46,10 @@ pub fn encode(bytes: &[u8], out: &mut [u8]) -> Result<usize, TooShort>
         return Err(TooShort);
     }
     for (i, byte) in bytes.iter().enumerate() {
-        out[2 * i..2 * i + 2].copy_from_slice(&digits(*byte));
+        // one write each: a copy of both for every byte takes several times as long
+        let [high, low] = digits(*byte);
+        out[2 * i] = high;
+        out[2 * i + 1] = low;
     }
     Ok(2 * bytes.len())
 }

@@ -1,6 +1,5 @@
-use Rattle.std.proofs.Common.{◌+◌, ◌*◌, ◌++◌, length, take, drop, refl, ap, ◌∙◌, arith}
-use Rattle.octets.specs.Hex.{hex}
-use Rattle.octets.proofs.Chunks.{put_at}
+use Rattle.std.proofs.Common.{◌+◌, ◌*◌, ◌/◌, ◌%◌, length, get_or, set, refl, ap, ◌∙◌, arith}
+use Rattle.octets.specs.Hex.{digit, hex}
 use Rattle.octets.proofs.Digits.{length-hex, written_more}
 use Rattle.octets.proofs.Fits.{fits_not}
 use Rattle.octets.proofs.hex.encode.Goals as goal
@@ -16,8 +15,8 @@ loop-i-init c = refl
 
 pub loop-i-preserved : goal.loop-i-preserved
 loop-i-preserved c =
-    let at = 2 * c.loop-i.i in
-    let out = c.loop-i.out in
-    put_at 2 at out c.copy_from_slice.new.self
-    ∙ ap (λ l. take at out ++ (l ++ drop (at + 2) out)) (c.copy_from_slice.ensures.after ∙ c.digits.ensures)
-    ∙ written_more c.args.bytes.now c.args.out.now out c.loop-i.i (omega arith) c.loop-i.invariant
+    let i = c.loop-i.i in
+    let b = get_or c.args.bytes.now i 0 in
+    let two = ap (λ l. set (set c.loop-i.out (2 * i) (get_or l 0 0)) (2 * i + 1) (get_or l 1 0)) c.digits.ensures in
+    two ∙ ap (λ l. set (set l (2 * i) (digit (b / 16))) (2 * i + 1) (digit (b % 16))) c.loop-i.invariant
+    ∙ written_more c.args.bytes.now c.args.out.now i (omega arith) (omega arith)
