@@ -1,7 +1,7 @@
 -- Laws of CRC-32, from two facts: a shift goes through an exclusive or, and below 2 ^ 32 only 0 is shifted to 0.
 -- Assumes nothing.
 use Rattle.std.proofs.Common.{◌≡◌, ℕ, zero, suc, ◌+◌, ◌*◌, ◌/◌, ◌%◌, ◌^◌, ◌<◌, ◌≤◌, ◌⊎◌, List, [], ◌∷◌, ◌++◌, map, length, get_or, take, drop, sym, refl, ap, ◌∙◌, subst, ap₂, inl, inr, pow-suc, zero-add, zero-mul, arith, length-drop, take-append-drop, length-take}
-use lib.Bits.{bit_xor, xor_assoc, xor_comm, xor_self, xor_zero_r, xor_lt, xor_shr, xor_mod, xor_shifted, shifted_half, shifted_even}
+use lib.Bits.{bit_and, bit_xor, and_mask, xor_assoc, xor_comm, xor_self, xor_zero_r, xor_lt, xor_shr, xor_mod, xor_shifted, shifted_half, shifted_even}
 use Rattle.std.proofs.lemmas.List.FromFn.{get_or-map-range_with_len}
 use Rattle.std.proofs.lemmas.List.{get_or-take, get_or-drop, get_or_past, drop-drop}
 use Rattle.std.proofs.lemmas.List.Sums.{fold-append}
@@ -86,17 +86,15 @@ byte_below r b n h =
     ∙ ap (bit_xor (shifts 8 (bit_xor r b))) (shifts_whole 8 n)
 
 -- the step by a table of what each byte does to a register of 0
-pub by_table : (r b i : ℕ) → b < 256 → i ≡ bit_xor (r % 256) b
-    → bit_xor (get_or (map (shifts 8) (range_with_len 0 256)) i 0) (r / 256) ≡ byte_in r b
+pub by_table : (r b : ℕ) → b < 256
+    → bit_xor (get_or (map (shifts 8) (range_with_len 0 256)) (bit_and (bit_xor r b) 255) 0) (r / 256) ≡ byte_in r b
 unfolding byte_in
-by_table r b i h is =
+by_table r b h =
     let x = bit_xor r b in
     let low : x % 256 < 256 = omega arith in
-    let byte : b % 256 ≡ b = omega arith in
-    let place : i ≡ x % 256 = is ∙ ap (bit_xor (r % 256)) (sym byte) ∙ sym (xor_mod r b 8) in
     let entry = get_or-map-range_with_len (shifts 8) 0 256 (x % 256) (x % 256) 0 low (zero-add (x % 256)) in
     let high : r / 256 ≡ x / 256 = sym (xor_shr r b 8 ∙ ap (bit_xor (r / 256)) (omega arith) ∙ xor_zero_r (r / 256)) in
-    rw (place, entry, high) (sym (byte_below 0 (x % 256) (x / 256) low) ∙ ap (shifts 8) (omega arith))
+    rw (and_mask x 8, entry, high) (sym (byte_below 0 (x % 256) (x / 256) low) ∙ ap (shifts 8) (omega arith))
 
 pub register-append : (r : ℕ) (xs ys : List ℕ) → register r (xs ++ ys) ≡ register (register r xs) ys
 unfolding register
