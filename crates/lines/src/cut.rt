@@ -9,10 +9,11 @@ pub fn first_line(text: &[u8]) -> (&[u8], &[u8])
     ensures first { 0 < length text.now → lines text.now ≡ result.0.now ∷ lines result.1.now }
     ensures shorter { 0 < length text.now → length result.1.now < length text.now }
 {
-    match text.iter().position(|byte| *byte == b'\n') {
-        Some(end) => (&text[..end], &text[end + 1..]),
-        None => (text, &[]),
-    }
+    let end = text
+        .iter()
+        .position(|byte| *byte == b'\n')
+        .unwrap_or(text.len());
+    (&text[..end], text.get(end + 1..).unwrap_or(&[]))
 }
 
 // The lines of a text, from the first on. Of those that `split_inclusive` gives no contract says which they are.
