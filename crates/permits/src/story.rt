@@ -7,6 +7,7 @@ use cipher::block_cipher::BlockCipher;
 use commands::make::NotMade;
 use octets::refusal::Refusal;
 use std::io;
+use std::str::from_utf8;
 use user_permit::check::check;
 use user_permit::make::make;
 use user_permit::permit::UserPermit;
@@ -23,7 +24,8 @@ fn system(rt: &HostRuntime, hardware: &HardwareId) -> Result<[u8; 46], Failure> 
 }
 
 fn made(rt: &HostRuntime) -> Result<[u8; 46], Failure> {
-    let version = String::from_utf8_lossy(rt.alloc(), &Aes128::version())?;
+    let version = Aes128::version();
+    let version = from_utf8(&version).unwrap();
     println!(rt; "1. A manufacturer makes user permits for two of its chart systems.")?;
     println!(rt; "   cipher           AES-128, version {version}")?;
     println!(rt; "   manufacturer ID  {MANUFACTURER}")?;
