@@ -78,6 +78,7 @@ fn without_line_feed(text: &[u8]) -> &[u8]
 }
 
 // By name, as every text is read: at a call that says more than a conversion.
+#[tactic(auto, using(crate::proofs::Keys::reads))]
 pub fn read(text: &[u8]) -> Result<Block, KeyFileFault>
     ensures { ReadsKey text.now result }
 {
