@@ -18,6 +18,7 @@ pub fn mistype(permit: &UserPermit) -> [u8; 46]
 }
 
 // Why the mistyped text is refused. That it is refused is what a check promises of every such alteration.
+#[tactic(auto, using(crate::proofs::OneCharacter::given_away))]
 pub fn refusal(permit: &UserPermit) -> CheckRefusal
     ensures { result ≡ Checksum }
 {
