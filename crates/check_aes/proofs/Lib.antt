@@ -1,2 +1,4 @@
+pub mod Answering
 pub mod Form
+pub mod Repeating
 pub mod Texts

@@ -14,11 +14,11 @@ module _ (t : List ℕ) where
   agrees : Decides (bytes_eq (take 8 (drop 32 t)) (checksum_of (take 32 t))) (take 8 (drop 32 t) ≡ checksum_of (take 32 t))
   agrees = bytes_eq-Decides _ _
 
-  lawful_verdict : Lawful t → 0 ≡ verdict t
+  pub lawful_verdict : Lawful t → 0 ≡ verdict t
   unfolding verdict
   lawful_verdict h = grind (arith, nat_tests, agrees)
 
-  refused_verdict : (e : CheckRefusal) → Checked t (Err e) → check_number e ≡ verdict t
+  pub refused_verdict : (e : CheckRefusal) → Checked t (Err e) → check_number e ≡ verdict t
   unfolding verdict
   refused_verdict Length h = grind (arith, nat_tests)
   refused_verdict Character h = grind (arith, nat_tests)

@@ -1,5 +1,6 @@
 -- A test at each element of a list. Assumes nothing.
-use Rattle.std.proofs.Common.{◌≡◌, ℕ, ◌<◌, Bool, true, ◌&&◌, List, [], ◌∷◌, ◌++◌, length, get_or, set, refl}
+use Rattle.std.proofs.Common.{◌≡◌, ℕ, ◌+◌, ◌<◌, ◌≤◌, Bool, true, ◌&&◌, List, [], ◌∷◌, ◌++◌, length, get_or, drop, set, sym, refl, ap, ◌∙◌}
+use Rattle.std.proofs.lemmas.List.{at_drop_more, at_drop_all}
 use Rattle.std.proofs.lemmas.Bool.{and_parts, and_from}
 use Rattle.std.proofs.lemmas.List.Recursion.{same_from_clauses, and_at, and_set}
 use Rattle.std.specs.List.{list_all}
@@ -30,3 +31,12 @@ module _ (test : ℕ → Bool) where
       let p = and_parts (test x) _ h in
       let q = every_parts xs ys p.1 in
       (and_from _ _ p.0 q.0, q.1)
+
+  -- a loop over the elements: one step on, and at the end
+  pub every_more : (xs : List ℕ) (i : ℕ) (b : Bool) → i < length xs → b ≡ test (get_or xs i 0) → (b && every test (drop (i + 1) xs)) ≡ every test (drop i xs)
+  unfolding every
+  every_more xs i b h told = ap (λ x. x && every test (drop (i + 1) xs)) told ∙ sym (at_drop_more (every test) xs i 0 h)
+
+  pub every_all : (xs : List ℕ) (i : ℕ) → length xs ≤ i → every test (drop i xs) ≡ true
+  unfolding every
+  every_all xs i h = at_drop_all (every test) xs i h

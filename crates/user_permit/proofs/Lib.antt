@@ -2,5 +2,6 @@ pub mod Accepting
 pub mod Agreement
 pub mod Altering
 pub mod Checksum
+pub mod Composing
 pub mod Making
 pub mod Sets

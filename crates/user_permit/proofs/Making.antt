@@ -13,11 +13,8 @@ use Rattle.user_permit.specs.Make.{making}
 use Rattle.user_permit.specs.declared.make.MakeRefusal.{MakeRefusal}
 use Rattle.user_permit.specs.Lawful.{Lawful, big_endian, checksum_of, permit_text}
 use Rattle.user_permit.proofs.Agreement.{big_endian_small}
+use Rattle.user_permit.proofs.Composing.{length-checksum_of}
 use Rattle.user_permit.proofs.Sets.{from_parts}
-
-length-checksum_of : (t : List ℕ) → length (checksum_of t) ≡ 8
-unfolding checksum_of
-length-checksum_of t = length-hex (big_endian (crc32 t))
 
 checksum_digits : (t : List ℕ) → Digits (checksum_of t)
 unfolding checksum_of
@@ -86,7 +83,7 @@ module _ (E D : List ℕ → List ℕ → List ℕ) (id key hardware before afte
   first : take 46 after ≡ made
   first = ap (take 46) stands ∙ take_at made (drop 46 before) 46 length_made
 
-  made_written : Writes (making E id key hardware (length before)) (Ok 46) before after
+  pub made_written : Writes (making E id key hardware (length before)) (Ok 46) before after
   unfolding made
   made_written =
       let meaning =
@@ -94,11 +91,11 @@ module _ (E D : List ℕ → List ℕ → List ℕ) (id key hardware before afte
       subst (λ m. Writes {E = MakeRefusal} m (Ok 46) before after) (sym meaning)
       (ap Ok (sym length_made), stands ∙ ap (λ n. made ++ drop n before) (sym length_made))
 
-  made_lawful : Lawful (take 46 after)
+  pub made_lawful : Lawful (take 46 after)
   unfolding made
   made_lawful = subst Lawful (sym first) (permit_lawful encrypted id block rule)
 
-  made_undone : hardware_id D key (take 46 after) ≡ hardware
+  pub made_undone : hardware_id D key (take 46 after) ≡ hardware
   unfolding made
   made_undone = ap (λ t. D key (unhex (take 32 t))) first ∙ ap (D key) (permit_block encrypted id block rule) ∙ undoes
 
