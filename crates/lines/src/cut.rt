@@ -9,6 +9,7 @@ pub fn first_line(text: &[u8]) -> (&[u8], &[u8])
     ensures first { 0 < length text.now → lines text.now ≡ result.0.now ∷ lines result.1.now }
     ensures shorter { 0 < length text.now → length result.1.now < length text.now }
 {
+    // one cut, whether an LF was found or not: with two the compiler counts each byte twice
     let end = text
         .iter()
         .position(|byte| *byte == b'\n')
