@@ -266,7 +266,7 @@ const TABLE: [u32; 256] = [
 fn step(crc: u32, byte: u8) -> u32
     ensures { result ≡ byte_in crc byte }
 {
-    // by a mask and a cast, which loses nothing: taken apart into bytes, the register makes the sum a quarter slower
+    // by a mask and a cast, which loses nothing: taken apart into bytes, the register makes the sum a third slower
     let low = (crc ^ u32::from(byte)) & 0xff;
     TABLE[low as usize] ^ (crc >> 8)
 }

@@ -22,10 +22,10 @@ module _ (D : List ℕ → List ℕ → List ℕ) (key sealed : List ℕ) (piece
   last_is last is = is ∙ plain-block_of_chunks D key sealed pieces (length pieces - 2) so (omega (arith, counted))
 
   -- the piece of a turn, out of those from the second on
-  turn_is : (i : ℕ) → i < length pieces - 2 → (b : List ℕ) → b ≡ D key (get_or (take (length pieces - 2 + 1 - 1) (drop 1 pieces)) i []) ⊕ get_or pieces i [] → b ≡ plain_block D key sealed (i + 1)
-  turn_is i lt b is =
+  turn_is : (i n : ℕ) → i < length pieces - 2 → i < n → (b : List ℕ) → b ≡ D key (get_or (take n (drop 1 pieces)) i []) ⊕ get_or pieces i [] → b ≡ plain_block D key sealed (i + 1)
+  turn_is i n lt within b is =
       let on : 1 + i ≡ i + 1 = omega arith in
-      is ∙ ap (λ p. D key p ⊕ get_or pieces i []) (get_or-take (length pieces - 2 + 1 - 1) (drop 1 pieces) i [] (omega arith) ∙ get_or-drop 1 pieces i [] ∙ ap (λ m. get_or pieces m []) on)
+      is ∙ ap (λ p. D key p ⊕ get_or pieces i []) (get_or-take n (drop 1 pieces) i [] within ∙ get_or-drop 1 pieces i [] ∙ ap (λ m. get_or pieces m []) on)
       ∙ plain-block_of_chunks D key sealed pieces i so (omega (arith, counted))
 
 pub returns-in_err-padding : goal.returns-in_err-padding
@@ -81,7 +81,7 @@ loop-i-preserved g c =
     let small : Small sealed = search rules in
     let lawful = sym c.is_sealed_length.ensures ∙ c.if-not-is_sealed_length.false in
     let turn : c.loop-i.i < length blocks - 2 = search rules in
-    let is = turn_is D key sealed blocks front many lawful c.loop-i.i turn c.plain_block-plain.result c.plain_block-plain.ensures in
+    let is = turn_is D key sealed blocks front many lawful c.loop-i.i _ turn (omega arith) c.plain_block-plain.result c.plain_block-plain.ensures in
     opened_more D key sealed (laws _ D key c.requires).dec_sixteen small (length blocks - 2 + 1) (omega (arith, counted D key sealed blocks front many lawful)) c.loop-i.i (omega arith) c.plain_block-plain.result c.loop-i.out c.args.out.now c.store.new.out is c.loop-i.invariant c.store.ensures
 
 pub returns : goal.returns
